@@ -1,1 +1,3 @@
+pub mod ActingMarks
 pub mod ValueApart
+pub mod ValueSweeps
