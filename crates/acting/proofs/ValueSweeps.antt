@@ -111,28 +111,28 @@ module _ (ls : Literals ℕ) (marks : State) where
       same-value : Stepped fluent value (is-known (turned e next) fluent value)
       unfolding is-known both either fails
       same-value = rw (eq-eqb fluent fluent refl, eq-eqb value value refl, fails)
-        (turn-cases {C = eqb (getD (turned e next) fluent 0) (value + 1) ≡ both (either (eqb (getD next fluent 0) (value + 1)) sure) true}
-        (λ t is. ap (λ (u : State). eqb (getD u fluent 0) (value + 1)) is ∙ eq-eqb _ _ t ∙ sym (both-all _ ∙ either-left _ _ (eq-eqb _ _ t)))
-        (λ _ t is. eq-eqb _ _ (told-mark (value + 1) is) ∙ sym (both-all _ ∙ either-right (eqb (getD next fluent 0) (value + 1)) sure t))
-        (λ u n _ is. ne-eqb (getD (turned e next) fluent 0) (value + 1) (λ q. let z = told-mark 0 is in omega (arith, z, q)) ∙ sym (both-all _ ∙ neither _ _ (ne-eqb _ _ u) n))
-        (λ u n _ is. ap (λ (w : State). eqb (getD w fluent 0) (value + 1)) is ∙ ne-eqb _ _ u ∙ sym (both-all _ ∙ neither _ _ (ne-eqb _ _ u) n)))
+          (turn-cases {C = eqb (getD (turned e next) fluent 0) (value + 1) ≡ both (either (eqb (getD next fluent 0) (value + 1)) sure) true}
+          (λ t is. ap (λ (u : State). eqb (getD u fluent 0) (value + 1)) is ∙ eq-eqb _ _ t ∙ sym (both-all _ ∙ either-left _ _ (eq-eqb _ _ t)))
+          (λ _ t is. eq-eqb _ _ (told-mark (value + 1) is) ∙ sym (both-all _ ∙ either-right (eqb (getD next fluent 0) (value + 1)) sure t))
+          (λ u n _ is. ne-eqb (getD (turned e next) fluent 0) (value + 1) (λ q. let z = told-mark 0 is in omega (arith, z, q)) ∙ sym (both-all _ ∙ neither _ _ (ne-eqb _ _ u) n))
+          (λ u n _ is. ap (λ (w : State). eqb (getD w fluent 0) (value + 1)) is ∙ ne-eqb _ _ u ∙ sym (both-all _ ∙ neither _ _ (ne-eqb _ _ u) n)))
 
       other-value : (v : ℕ) → (v ≡ value → ⊥) → Stepped fluent v (is-known (turned e next) fluent v)
       unfolding is-known both either fails
       other-value v other = rw (eq-eqb fluent fluent refl, ne-eqb v value other, fails)
-        (turn-cases {C = eqb (getD (turned e next) fluent 0) (v + 1) ≡ both (either (eqb (getD next fluent 0) (v + 1)) false) (fails may)}
-        (λ t is.
-        let none = ne-eqb (getD next fluent 0) (v + 1) (λ q. other (omega (arith, t, q))) in
-        ap (λ (u : State). eqb (getD u fluent 0) (v + 1)) is ∙ none ∙ sym (ap (λ (b : Bool). both (either b false) (fails may)) none))
-        (λ _ t is.
-        ne-eqb (getD (turned e next) fluent 0) (v + 1) (λ q. let z = told-mark (value + 1) is in other (omega (arith, z, q)))
-        ∙ sym (ap (λ (b : Bool). both (either (eqb (getD next fluent 0) (v + 1)) false) (fails b)) (sure-possible t) ∙ both-none (either (eqb (getD next fluent 0) (v + 1)) false)))
-        (λ _ _ t is.
-        ne-eqb (getD (turned e next) fluent 0) (v + 1) (λ q. let z = told-mark 0 is in omega (arith, z, q))
-        ∙ sym (ap (λ (b : Bool). both (either (eqb (getD next fluent 0) (v + 1)) false) (fails b)) t ∙ both-none (either (eqb (getD next fluent 0) (v + 1)) false)))
-        (λ _ _ n is.
-        ap (λ (w : State). eqb (getD w fluent 0) (v + 1)) is
-        ∙ sym (ap (λ (b : Bool). both (either (eqb (getD next fluent 0) (v + 1)) false) (fails b)) n ∙ both-all _ ∙ either-none _)))
+          (turn-cases {C = eqb (getD (turned e next) fluent 0) (v + 1) ≡ both (either (eqb (getD next fluent 0) (v + 1)) false) (fails may)}
+          (λ t is.
+          let none = ne-eqb (getD next fluent 0) (v + 1) (λ q. other (omega (arith, t, q))) in
+          ap (λ (u : State). eqb (getD u fluent 0) (v + 1)) is ∙ none ∙ sym (ap (λ (b : Bool). both (either b false) (fails may)) none))
+          (λ _ t is.
+          ne-eqb (getD (turned e next) fluent 0) (v + 1) (λ q. let z = told-mark (value + 1) is in other (omega (arith, z, q)))
+          ∙ sym (ap (λ (b : Bool). both (either (eqb (getD next fluent 0) (v + 1)) false) (fails b)) (sure-possible t) ∙ both-none (either (eqb (getD next fluent 0) (v + 1)) false)))
+          (λ _ _ t is.
+          ne-eqb (getD (turned e next) fluent 0) (v + 1) (λ q. let z = told-mark 0 is in omega (arith, z, q))
+          ∙ sym (ap (λ (b : Bool). both (either (eqb (getD next fluent 0) (v + 1)) false) (fails b)) t ∙ both-none (either (eqb (getD next fluent 0) (v + 1)) false)))
+          (λ _ _ n is.
+          ap (λ (w : State). eqb (getD w fluent 0) (v + 1)) is
+          ∙ sym (ap (λ (b : Bool). both (either (eqb (getD next fluent 0) (v + 1)) false) (fails b)) n ∙ both-all _ ∙ either-none _)))
 
       turn-known : (f v : ℕ) → Stepped f v (is-known (turned e next) f v)
       turn-known f v = elim (ℕ-discrete f fluent) [
