@@ -48,10 +48,10 @@ pub record Effect-fit (s : List ℕ) (p : ℕ) : Type 0 where
   pub value : (getD s (p + 1) 0 * 256 + getD s (p + 2) 0) % 256 / 2 < values-in s ((getD s (p + 1) 0 * 256 + getD s (p + 2) 0) / 256)
   pub body : Values-here s (p + 3)
 
-module _ (s : List ℕ) (few : Few-values s) (e : Effect) (line : Value-effect s e) where
-  from-is : effect-from s (e .place) ≡ e
-  from-is = rw (line .action, line .literal, line .body .is)
+from-is : (s : List ℕ) (e : Effect) → Value-effect s e → effect-from s (e .place) ≡ e
+from-is s e line = rw (line .action, line .literal, line .body .is)
 
+module _ (s : List ℕ) (few : Few-values s) (e : Effect) (line : Value-effect s e) where
   line-fits : Effect-fit s (e .place)
   line-fits =
       let near = line .fluent in
@@ -77,21 +77,21 @@ pub record Sweeping (s t : List ℕ) (a : ℕ) (marks next : State) (k : ℕ) : 
   pub valued : Valued-marks s next
   pub same : swept (literals-in s) marks (effects-of (table-in Valued s) a) marks ≡ swept (literals-in s) marks (map (effect-from s) (ahead .rest)) next
 
-module _ (s t : List ℕ) (here : Value-effects s t) (few : Few-values s) (a : ℕ) where
+module _ (s t : List ℕ) (here : Value-effects s t) (a : ℕ) where
   line-of : (e : Effect) → Has (effects-of (table-in Valued s) a) e → Value-effect s e
   unfolding effects-of
   line-of e has = here .line e (those-has _ (table-in Valued s .effects) e has .0)
 
-  pub sweeping-starts : (k : ℕ) (marks : State) → a < format .actions → Valued-marks s marks → k ≡ first-line t effect-lines a → Sweeping s t a marks marks k
+  pub sweeping-starts : Few-values s → (k : ℕ) (marks : State) → a < format .actions → Valued-marks s marks → k ≡ first-line t effect-lines a → Sweeping s t a marks marks k
   unfolding ahead-starts
-  sweeping-starts k marks small so at =
+  sweeping-starts few k marks small so at =
       let es = effects-of (table-in Valued s) a in
       record {
         ahead = ahead-starts (Effect-fit s) t effect-lines a (map (λ (e : Effect). e .place) es) (here .order a small)
             (λ p has. let w = map-has (λ (e : Effect). e .place) es p has in subst (Effect-fit s) (sym (w .2)) (line-fits s few (w .0) (line-of (w .0) (w .1))))
             k at;
         valued = so;
-        same = ap (λ (gs : List Effect). swept (literals-in s) marks gs marks) (sym (map-from s es (λ e has. from-is s few e (line-of e has))));
+        same = ap (λ (gs : List Effect). swept (literals-in s) marks gs marks) (sym (map-from s es (λ e has. from-is s e (line-of e has))));
       }
 
 -- AT A LINE.
@@ -231,7 +231,7 @@ unfolding known-after
 after-swept s t a marks next k here few so passed runs sweeps h =
     let table = table-in Valued s in
     let es = effects-of table a in
-    let near : (e : Effect) → Has es e → (e .literal) / 256 < length marks = λ e has. subst (λ (n : ℕ). (e .literal) / 256 < n) (sym (so .sized)) (line-near s few e (line-of s t here few a e has)) in
+    let near : (e : Effect) → Has es e → (e .literal) / 256 < length marks = λ e has. subst (λ (n : ℕ). (e .literal) / 256 < n) (sym (so .sized)) (line-near s few e (line-of s t here a e has)) in
     after-is (literals-in s) table a marks next (sweeps .valued .sized ∙ sym (so .sized)) (sweeps .valued .small)
     (λ f v.
     ap (λ (u : State). is-known u f v) (sym (sweep-done s t a marks next k sweeps h))

@@ -3,13 +3,13 @@
 -- allows the action is known true and excludes neither; so the two effects would be contradictory. Assumes nothing.
 use Prim.Native.Nat.{ℕ, _+_}
 use native.Mathlib.Omega.{arith}
-use mathlib.Core.Path.{_≡_, refl, sym, _∙_, ap, subst}
+use mathlib.Core.Path.{_≡_, sym, _∙_, ap, subst}
 use mathlib.Core.Bool.{Bool, true, false}
 use mathlib.Core.List.{List, [], _∷_}
 use mathlib.Core.Logic.{_⊎_, inl, inr, ⊎-elim}
 use lib.Dec.{eqb}
 use borrow.Author.Tests.{eqb-true, eqb-false, eq-eqb, ne-eqb}
-use Rattle.meaning.specs.Tests.{both, either, fails, some-of, each-of, Has}
+use Rattle.meaning.specs.Tests.{both, fails, some-of, each-of, Has}
 use Rattle.meaning.specs.Requests.{Effect, Executability, Table}
 use Rattle.meaning.specs.Refusals.{nowhere, first-against}
 use Rattle.meaning.specs.Lines.{effects-of, executability-of, allowed}
