@@ -197,8 +197,8 @@ module _ (t : Table) (a : ℕ) (marks : State) (marked : Marked marks) where
     sensed-no-first far = unknown-all t a marks ∙ unknown-no-first 0 g from-none far
 
 -- THE TABLE of what an action senses.
-module _ (s t : List ℕ) (a : ℕ) (here : At-hand s t) (small : a < format .actions) where
-  abbrev served : Senses s t a
+module _ (s t : List ℕ) (a : ℕ) (here : At-hand Flags s t) (small : a < format .actions) where
+  abbrev served : Senses Flags s t a
   served = here .senses a small
 
   pub sensing-is : (end : ℕ) → end ≡ getD t (sensed-to + a) 0 → ltb 0 end ≡ sensing (table-in Flags s) a

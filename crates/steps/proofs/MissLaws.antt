@@ -10,6 +10,7 @@ use mir.Syntax.{w64}
 use mir.Val.{Fits}
 use borrow.Author.Tests.{lt-ltb, le-ltb, eqb-true, eqb-false, eq-eqb, ne-eqb}
 use Rattle.meaning.specs.Tests.{either, pick}
+use Rattle.meaning.specs.declared.Form.{Form}
 use Rattle.meaning.specs.Limits.{format, all-literals}
 use Rattle.meaning.specs.Requests.{Entry}
 use Rattle.meaning.specs.Refusals
@@ -116,12 +117,12 @@ module _ (test : ℕ → Bool) (s : List ℕ) (p end : ℕ) (whole : Code.Found)
   missed-done h = sym (so-far .1 ∙ rw (bytes-done s end i h))
 
 -- THE GOALS, and then the whether entries.
-module _ (s t : List ℕ) (here : At-hand s t) (goals : ℕ) (is : goals ≡ getD t goals-slot 0) where
+module _ {form : Form} (s t : List ℕ) (here : At-hand form s t) (goals : ℕ) (is : goals ≡ getD t goals-slot 0) where
   pub goals-there : List-here (bound-as Goal) s goals
   unfolding bound-as
   goals-there = goals-here s t here goals is
 
-  goals-are : placed (goals + 1) (listed s goals) ≡ request-in s t .goals
+  goals-are : placed (goals + 1) (listed s goals) ≡ request-in form s t .goals
   unfolding request-in goals-in
   goals-are = rw is
 
@@ -135,7 +136,7 @@ module _ (s t : List ℕ) (here : At-hand s t) (goals : ℕ) (is : goals ≡ get
     pub whether-fits : Fits w64 (length s) → Fits w64 (goals + 1 + x)
     whether-fits room = let ends = goals-there .ends in let most = room .fits in record { fits = omega arith }
 
-    whether-is : placed (goals + 1 + x + 1) (listed s (goals + 1 + x)) ≡ request-in s t .whether
+    whether-is : placed (goals + 1 + x + 1) (listed s (goals + 1 + x)) ≡ request-in form s t .whether
     unfolding request-in goals-in whether-in
     whether-is = rw (byte, is)
 
@@ -144,26 +145,26 @@ module _ (s t : List ℕ) (here : At-hand s t) (goals : ℕ) (is : goals ≡ get
     whether-there = whether-here s t here goals is (goals + 1 + x) (ap (λ (y : ℕ). goals + 1 + y) byte)
 
   module _ (marks : State) (r : Code.Found) (looked : r ≡ found (first-missed (met-as Goal marks) (placed (goals + 1) (listed s goals)))) where
-    goals-looked : r ≡ found (first-missed (known marks) (request-in s t .goals))
+    goals-looked : r ≡ found (first-missed (known marks) (request-in form s t .goals))
     unfolding met-as
     goals-looked = looked ∙ ap (λ (es : List Entry). found (first-missed (known marks) es)) goals-are
 
-    pub goal-missed : (p : ℕ) → r ≡ At p → At p ≡ found (missed-in (request-in s t) marks)
+    pub goal-missed : (p : ℕ) → r ≡ At p → At p ≡ found (missed-in (request-in form s t) marks)
     unfolding missed-in or-else found
     goal-missed p e =
-        let is : first-missed (known marks) (request-in s t .goals) ≡ Refusals.at p = found-at _ r goals-looked p e in
+        let is : first-missed (known marks) (request-in form s t .goals) ≡ Refusals.at p = found-at _ r goals-looked p e in
         rw is
 
-    pub whether-missed : r ≡ Nowhere → (x : ℕ) → x ≡ getD s goals 0 → (q : Code.Found) → q ≡ found (first-missed (met-as Whether marks) (placed (goals + 1 + x + 1) (listed s (goals + 1 + x)))) → q ≡ found (missed-in (request-in s t) marks)
+    pub whether-missed : r ≡ Nowhere → (x : ℕ) → x ≡ getD s goals 0 → (q : Code.Found) → q ≡ found (first-missed (met-as Whether marks) (placed (goals + 1 + x + 1) (listed s (goals + 1 + x)))) → q ≡ found (missed-in (request-in form s t) marks)
     unfolding missed-in or-else met-as
     whether-missed e x byte q asked =
-        let is : first-missed (known marks) (request-in s t .goals) ≡ Refusals.nowhere = found-none _ r goals-looked e in
+        let is : first-missed (known marks) (request-in form s t .goals) ≡ Refusals.nowhere = found-none _ r goals-looked e in
         asked
         ∙ ap (λ (es : List Entry). found (first-missed (known-whether marks) es)) (whether-is x byte)
         ∙ rw is
 
 -- THE GUARDS, where the notes have a place of them.
-module _ (s t : List ℕ) (here : At-hand s t) (guards : ℕ) (is : guards ≡ getD t guards-slot 0) where
+module _ {form : Form} (s t : List ℕ) (here : At-hand form s t) (guards : ℕ) (is : guards ≡ getD t guards-slot 0) where
   slot-is : guards-at t ≡ guards
   unfolding guards-at
   slot-is = sym is

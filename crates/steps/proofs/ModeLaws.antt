@@ -9,7 +9,7 @@ use Rattle.meaning.specs.Tests.{pick}
 use Rattle.meaning.specs.Limits.{format}
 use Rattle.meaning.specs.Requests.{Table, Entry}
 use Rattle.meaning.specs.States.{State, first-state, state-after}
-use Rattle.meaning.specs.Walk.{table-does, first-missed, walked, guarded-step, walked-guarded}
+use Rattle.meaning.specs.Walk.{table-does, first-missed, judged, walked, guarded-step, walked-guarded}
 use Rattle.meaning.specs.ByCases.{complete, shared-mark, shared-marks, after-each, after-cases, cases-does, cases-step, walked-by-cases}
 use Rattle.meaning.specs.Schemes.{narrow-does, narrow-step, walked-narrow, narrow-walk-of}
 use Rattle.meaning.proofs.TestLaws.{pick-true, pick-false}
@@ -17,7 +17,7 @@ use Rattle.meaning.proofs.PickLaws.{pick-has}
 use Rattle.meaning.proofs.KeptEnds.{walked-unguarded}
 use Rattle.steps.specs.Held.{table-in, guards-in, request-in}
 use Rattle.steps.specs.AtHand.{Marked}
-use Rattle.steps.specs.Steps.{narrow-mode, mode-in, does-in, after-in, step-in, walk-held}
+use Rattle.steps.specs.Steps.{narrow-mode, mode-in, does-in, after-in, step-in, judged-in, walk-held}
 use Rattle.steps.proofs.LookLaws
 use Rattle.meaning.specs.declared.Form.the-variants.{Flags}
 
@@ -50,22 +50,22 @@ does-known : (m : ℕ) (t : Table) → m ≡ 0 → does-in m t ≡ table-does t
 unfolding does-in
 does-known m t zero-is = fun-ext (λ a. fun-ext (λ s. pick-true _ _ _ (eq-eqb m 0 zero-is)))
 
-pub held-known : (s t : List ℕ) → mode-in t ≡ 0 → walk-held s t ≡ walked-guarded (request-in s t) (guards-in s t) (first-state format (table-in Flags s))
-unfolding walk-held step-in walked-guarded guarded-step request-in
+pub held-known : (s t : List ℕ) → mode-in t ≡ 0 → walk-held Flags s t ≡ walked-guarded (request-in Flags s t) (guards-in s t) (first-state format (table-in Flags s))
+unfolding walk-held step-in judged-in judged walked-guarded guarded-step request-in
 held-known s t zero-is = rw (does-known (mode-in t) (table-in Flags s) zero-is) refl
 
-pub held-plain : (s t : List ℕ) → mode-in t ≡ 0 → guards-in s t ≡ [] → walk-held s t ≡ walked (request-in s t) (first-state format (table-in Flags s))
+pub held-plain : (s t : List ℕ) → mode-in t ≡ 0 → guards-in s t ≡ [] → walk-held Flags s t ≡ walked (request-in Flags s t) (first-state format (table-in Flags s))
 held-plain s t zero-is none =
-    held-known s t zero-is ∙ ap (λ (gs : List Entry). walked-guarded (request-in s t) gs (first-state format (table-in Flags s))) none
-    ∙ walked-unguarded (request-in s t) (first-state format (table-in Flags s))
+    held-known s t zero-is ∙ ap (λ (gs : List Entry). walked-guarded (request-in Flags s t) gs (first-state format (table-in Flags s))) none
+    ∙ walked-unguarded (request-in Flags s t) (first-state format (table-in Flags s))
 
 -- In mode 2, and without guards, it is refused at the first sensing action that is too wide.
 does-narrow : (m : ℕ) (t : Table) → m ≡ narrow-mode → does-in m t ≡ narrow-does t
 unfolding does-in pick
 does-narrow m t is = ap (λ (n : ℕ). does-in n t) is ∙ fun-ext (λ a. fun-ext (λ s. refl))
 
-pub held-narrow : (s t : List ℕ) → mode-in t ≡ narrow-mode → guards-in s t ≡ [] → walk-held s t ≡ narrow-walk-of format (request-in s t)
-unfolding walk-held step-in walked-narrow narrow-step request-in first-missed
+pub held-narrow : (s t : List ℕ) → mode-in t ≡ narrow-mode → guards-in s t ≡ [] → walk-held Flags s t ≡ narrow-walk-of format (request-in Flags s t)
+unfolding walk-held step-in judged-in judged walked-narrow narrow-step request-in first-missed
 held-narrow s t is none = rw (does-narrow (mode-in t) (table-in Flags s) is, none) refl
 
 -- In every other mode, and without guards, it goes by cases.
@@ -73,6 +73,6 @@ does-cases : (m : ℕ) (t : Table) → (m ≡ 0 → ⊥) → (m ≡ narrow-mode 
 unfolding does-in
 does-cases m t other wide = fun-ext (λ a. fun-ext (λ s. pick-false _ _ _ (ne-eqb m 0 other) ∙ pick-false _ _ _ (ne-eqb m narrow-mode wide)))
 
-pub held-cases : (s t : List ℕ) → (mode-in t ≡ 0 → ⊥) → (mode-in t ≡ narrow-mode → ⊥) → guards-in s t ≡ [] → walk-held s t ≡ walked-by-cases (request-in s t) (first-state format (table-in Flags s))
-unfolding walk-held step-in walked-by-cases cases-step request-in first-missed
+pub held-cases : (s t : List ℕ) → (mode-in t ≡ 0 → ⊥) → (mode-in t ≡ narrow-mode → ⊥) → guards-in s t ≡ [] → walk-held Flags s t ≡ walked-by-cases (request-in Flags s t) (first-state format (table-in Flags s))
+unfolding walk-held step-in judged-in judged walked-by-cases cases-step request-in first-missed
 held-cases s t other wide none = rw (does-cases (mode-in t) (table-in Flags s) other wide, none) refl

@@ -78,7 +78,7 @@ module _ (t : Table) (a : ℕ) (marks : State) where
       }
 
 -- AN ACTION TRIED BY CASES.
-module _ (s notes : List ℕ) (here : At-hand s notes) (a : ℕ) (marks : State) (marked : Marked marks) (held : List ℕ) (found : Opened (open-fluents (table-in Flags s) a marks) held) where
+module _ (s notes : List ℕ) (here : At-hand Flags s notes) (a : ℕ) (marks : State) (marked : Marked marks) (held : List ℕ) (found : Opened (open-fluents (table-in Flags s) a marks) held) where
   abbrev t : Table
   t = table-in Flags s
 

@@ -8,6 +8,7 @@ use lib.ListN.{length, getD}
 use lib.Dec.{eqb}
 use Rattle.meaning.specs.Limits.{format, all-literals}
 use Rattle.meaning.specs.Refusals.{Found, nowhere, first-against, contradiction-in}
+use Rattle.meaning.specs.Requests.{Table}
 use Rattle.meaning.specs.Values.{contradictory}
 use Rattle.meaning.specs.declared.Form.{Form}
 use Rattle.meaning.specs.declared.Form.the-variants.{Flags, Valued}
@@ -22,14 +23,14 @@ use Rattle.steps.specs.LinesFound.{run-places, effect-places, Senses}
 use Rattle.steps.specs.Rests.{Nexts}
 
 -- The first effect that contradicts one before it (FORMAT 4.37, 26.24).
-abbrev pub contradiction-as : Form → List ℕ → Found
-contradiction-as Flags s = contradiction-in (table-in Flags s)
-contradiction-as Valued s = first-against (contradictory (literals-in s) (table-in Valued s)) [] (table-in Valued s .effects)
+abbrev pub contradiction-as : Form → List ℕ → Table → Found
+contradiction-as Flags s x = contradiction-in x
+contradiction-as Valued s x = first-against (contradictory (literals-in s) x) [] (x .effects)
 
--- The guards stand where their slot says, unless it says that there are none. A request with values has none.
-abbrev pub Guards-here : Form → (s t : List ℕ) → Type 0
-Guards-here Flags s t = eqb (guards-at t) 0 ≡ false → List-here all-literals s (guards-at t)
-Guards-here Valued s t = guards-at t ≡ 0
+-- The guards stand at g, unless that is 0 and there are none. A request with values has none.
+abbrev pub Guards-here : Form → List ℕ → (g : ℕ) → Type 0
+Guards-here Flags s g = eqb g 0 ≡ false → List-here all-literals s g
+Guards-here Valued s g = g ≡ 0
 
 pub record At-hand (form : Form) (s t : List ℕ) : Type 0 where
   -- The input has bytes, and no more of them than a request may have.
@@ -42,7 +43,7 @@ pub record At-hand (form : Form) (s t : List ℕ) : Type 0 where
   pub runs : (a : ℕ) → a < format .actions → In-order t run-lines a (run-places form s a)
   pub senses : (a : ℕ) → a < format .actions → Senses form s t a
   -- 16 has passed.
-  pub no-contradiction : contradiction-as form s ≡ nowhere
+  pub no-contradiction : contradiction-as form s (table-in form s) ≡ nowhere
   -- The plan stands from its slot up to the goals, and the notes lead from item to item.
   pub plan : plan-at format form (table-in form s .fluents) (table-in form s .actions) s (getD t plan-slot 0) ≡ got (record { value = plan-in form s t; items = getD t items-slot 0 }) (goals-in t)
   pub held : Plan-held form s t (plan-in form s t)
@@ -51,7 +52,7 @@ pub record At-hand (form : Form) (s t : List ℕ) : Type 0 where
   pub goals : literals-at form (table-in form s .fluents) (format .listed) s (goals-in t) ≡ got (listed-as form s (goals-in t)) (whether-in form s t)
   pub whether-end : ℕ
   pub whether : list-at fluents (table-in form s .fluents) (format .listed) s (whether-in form s t) ≡ got (listed s (whether-in form s t)) whether-end
-  pub guards : Guards-here form s t
+  pub guards : Guards-here form s (guards-at t)
 
 -- Each of the marks is one of the three.
 pub record Marked (marks : List ℕ) : Type 0 where

@@ -10,7 +10,7 @@ use Rattle.meaning.specs.Requests.{Sequence, done, item, Item, act, branching, 
 use Rattle.meaning.specs.Derivations.{join}
 use Rattle.meaning.specs.declared.Form.{Form}
 use Rattle.reading.specs.Noted.{item-place, item-next, around-from}
-use Rattle.reading.specs.Listed.{span}
+use Rattle.reading.specs.Listed as Listed
 use Rattle.reading.specs.Planned.{items-of, items-in, bytes-of, place-of, following}
 use Rattle.finding.specs.PlansHeld.{Item-written, Branch-kept}
 
@@ -89,7 +89,7 @@ pub record Branch-laid (t : List ℕ) (b : Sequence ℕ) (met p : ℕ) (d after 
 unfoldable pub Branches-laid : Form → (t : List ℕ) (b : Sequence ℕ) (met p : ℕ) (after : Sequence ℕ) → Branches ℕ → Type 0
 Branches-laid form t b met p after none = Unit {0}
 Branches-laid form t b met p after (branch c d bs) =
-    Branch-laid t b met (p + (1 + span form (length c)) + (2 + bytes-of form d)) d after × Branches-laid form t b (met + items-of d) (p + (1 + span form (length c)) + (2 + bytes-of form d)) after bs
+    Branch-laid t b met (p + (1 + Listed.span form (length c)) + (2 + bytes-of form d)) d after × Branches-laid form t b (met + items-of d) (p + (1 + Listed.span form (length c)) + (2 + bytes-of form d)) after bs
 
 unfoldable pub Inside-laid : Form → (t : List ℕ) (b : Sequence ℕ) (i : ℕ) (after : Sequence ℕ) → Item ℕ → Type 0
 Inside-laid form t b i after (act p a) = a < format .actions
