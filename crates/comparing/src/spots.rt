@@ -4,7 +4,6 @@ ghost use lib.ListN.{getD};
 ghost use Rattle.deriving.specs.DerivationRead.{plan-ends-slot};
 ghost use Rattle.comparing.specs.Stands.{spot-at};
 ghost use Rattle.comparing.specs.RuleAnswers.{Some-at, Some-lines, Some-concluded, Same-conclusions};
-use meaning::Form;
 use super::parts::same_lists;
 use bytes::bytes::wide;
 use deriving::derivations::Places;
@@ -12,6 +11,7 @@ use deriving::derivations::gives_fluent;
 use deriving::derived::end_of;
 use deriving::derived::place_of;
 use finding::branches::sequence_of;
+use meaning::Form;
 use meaning::Layout;
 
 // Where the parts of a line stand: the line with its list X, the end of its plan, its conclusion, the count of its citations. And its

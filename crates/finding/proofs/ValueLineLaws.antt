@@ -1,4 +1,4 @@
--- The lines of a table of values that the notes hold: the notes lead to them, and each stands at its place. Assumes nothing.
+-- The lines of a table of values that was read: each stands at its place. Assumes nothing.
 use Prim.Native.Nat.{ℕ, _+_, _*_, _<_}
 use native.Mathlib.Omega.{arith}
 use mathlib.Core.Path.{_≡_, sym, ap, subst}
@@ -7,13 +7,12 @@ use mathlib.Core.List.{List}
 use lib.ListN.{getD}
 use Rattle.meaning.specs.Tests.{Has}
 use Rattle.meaning.specs.Literals.{positive}
-use Rattle.meaning.specs.Requests.{Effect}
+use Rattle.meaning.specs.Requests.{Effect, Executability, Table}
 use Rattle.meaning.specs.declared.Form.the-variants.{Valued}
 use Rattle.meaning.specs.Reading.{values-in}
 use Rattle.finding.specs.LinesHere.{effect-from, Effect-here}
-use Rattle.finding.specs.TablesHere.{table-in, Table-here}
-use Rattle.finding.specs.ValueLines.{Value-effect, Value-effects, Value-runs}
-use Rattle.finding.proofs.ReadLaws.{whole-table, effect-good, effects-ordered, runs-ordered, run-stands}
+use Rattle.finding.specs.ValueLines.{Value-body, Value-effect}
+use Rattle.finding.proofs.ReadLaws.{Table-parts, effect-good, run-stands}
 
 value-effect : (s : List ℕ) (e : Effect) → effect-from Valued s (e .place) ≡ e → Effect-here Valued s (e .place) → Value-effect s e
 unfolding effect-from
@@ -32,15 +31,10 @@ value-effect s e is here =
       body = record { here = here .body; is = body; leaves = rw (sym body) (here .apart) };
     }
 
-module _ (s t : List ℕ) (here : Table-here Valued s t) where
-  pub value-effects : Value-effects s t
-  value-effects = record {
-    order = effects-ordered s (here .bytes) (table-in Valued s) (here .table-end) (whole-table s t here) t (here .noted);
-    line = λ e has. let good = effect-good s (table-in Valued s) (here .table-end) (whole-table s t here) e has in value-effect s e (good .0) (good .1);
-  }
+-- Of a table that was read.
+module _ (s : List ℕ) (x : Table) (p : ℕ) (whole : Table-parts Valued s x p) where
+  pub effect-stands : (e : Effect) → Has (x .effects) e → Value-effect s e
+  effect-stands e has = let good = effect-good s x p whole e has in value-effect s e (good .0) (good .1)
 
-  pub value-runs : Value-runs s t
-  value-runs = record {
-    order = runs-ordered s (here .bytes) (table-in Valued s) (here .table-end) (whole-table s t here) t (here .noted);
-    line = λ x has. let stands = run-stands s (table-in Valued s) (here .table-end) (whole-table s t here) x has in record { here = stands .1; is = stands .0; leaves = stands .2 };
-  }
+  pub body-stands : (y : Executability) → Has (x .executability) y → Value-body s (y .place + 1) (y .body)
+  body-stands y has = let stands = run-stands s x p whole y has in record { here = stands .1; is = stands .0; leaves = stands .2 }

@@ -14,7 +14,6 @@ use Rattle.reading.specs.Noted.{effect-lines, run-lines, plan-slot, items-slot,
 use Rattle.reading.specs.Ordered.{In-order}
 use Rattle.reading.specs.Listed.{listed-as, Literals-here}
 use Rattle.finding.specs.LinesHere.{Consistent}
-
 -- THE TABLE (FORMAT 2.12 to 2.16).
 unfoldable pub use Rattle.reading.specs.Tables.{table-of, table-in}
 

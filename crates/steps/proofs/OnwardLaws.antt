@@ -12,14 +12,18 @@ use mir.Val.{Fits}
 use lib.Dec.{leb}
 use borrow.Author.Tests.{le-leb, lt-leb, leb-true, leb-false}
 use Rattle.meaning.specs.Tests.{each-of}
-use Rattle.meaning.specs.Limits.{format}
+use Rattle.meaning.specs.Limits.{format, all-literals}
 use Rattle.meaning.specs.Requests.{Sequence, done, item, Item, act, branching, Branches, none, branch}
 use Rattle.meaning.specs.Derivations.{join}
 use Rattle.meaning.specs.States.{State}
 use Rattle.meaning.specs.Walk.{Walked, Steps, unless-broken, meet, run-action, walk, walk-item, walk-branch}
 use Rattle.meaning.proofs.TestLaws.{by-test, clash, pick-true, pick-false}
 use Rattle.reading.specs.Listed as Listed
-use Rattle.reading.specs.Listed.{listed-as}
+use Rattle.reading.specs.Listed.{listed, List-here, Values-here, listed-as, Literals-here, holds-as}
+use Rattle.reading.specs.declared.marks.Test.the-variants.{Known}
+use Rattle.meaning.specs.Reading.{literals-in}
+use Rattle.meaning.specs.ValueStates as Value
+use Rattle.meaning.specs.declared.Form.the-variants.{Flags, Valued}
 use Rattle.finding.specs.declared.places.Found as Code
 use Rattle.finding.specs.declared.places.Found.the-variants.{Nowhere, At}
 use Rattle.meaning.specs.declared.Form.{Form}
@@ -87,7 +91,7 @@ module _ {form : Form} (s t : List ℕ) (here : At-hand form s t) (i : ℕ) wher
     pub slot-there : format .items + i < slots
     slot-there = let few = few-items s t here in omega (arith, less, few)
 
-    pub going-starts : (at : ℕ) → at ≡ getD t (item-next + i) 0 → Going form s t i at
+    going-starts : (at : ℕ) → at ≡ getD t (item-next + i) 0 → Going form s t i at
     going-starts at is =
         let some = span-some s t here i less in
         let on = laid s t here i less .next in
@@ -101,25 +105,25 @@ module _ {form : Form} (s t : List ℕ) (here : At-hand form s t) (i : ℕ) wher
         })
 
   module _ (at : ℕ) (going : Going form s t i at) where
-    pub goes-there : at ≤ format .items → Followed form s t i at
+    goes-there : at ≤ format .items → Followed form s t i at
     goes-there h = record { later = going .later h; at = going .position h; rest = sym (onward-item (plan-in form s t) at h) ∙ going .rest }
 
     module _ (more : format .items < at) where
-      pub around-fits : Fits w64 (format .items + (at - around-from))
+      around-fits : Fits w64 (format .items + (at - around-from))
       around-fits = let few = few-items s t here in let inside = going .inside more in record { fits = omega (arith, inside, few) }
 
-      pub around-there : format .items + (at - around-from) < slots
+      around-there : format .items + (at - around-from) < slots
       around-there = let few = few-items s t here in let inside = going .inside more in omega (arith, inside, few)
 
       module _ (next : ℕ) (is : next ≡ getD t (item-next + (at - around-from)) 0) where
-        pub going-less : next < at
+        going-less : next < at
         going-less =
             let on = laid s t here (at - around-from) (going .inside more) .next in
             by-test (leb next (format .items))
             (λ u. let small = leb-true next (format .items) u in omega (arith, small, more))
             (λ u. let large = leb-false next (format .items) u in let around = on .around (subst (λ (n : ℕ). format .items < n) is large) in omega (arith, around, is, more))
 
-        pub going-on-around : Going form s t i next
+        going-on-around : Going form s t i next
         going-on-around =
             let inside = going .inside more in
             let within = going .within more in
@@ -133,6 +137,30 @@ module _ {form : Form} (s t : List ℕ) (here : At-hand form s t) (i : ℕ) wher
               rest = on .rest ∙ sym (after-is s t here (at - around-from) inside) ∙ sym (onward-around (plan-in form s t) at more) ∙ going .rest;
             })
 
+-- The same whatever form the request has: what the code looks for does not depend on it.
+pub record Goes (s t : List ℕ) (i at : ℕ) : Type 0 where
+  pub each : (form : Form) → At-hand form s t → i < items-of (plan-in form s t) → Going form s t i at
+
+pub goes-starts : (s t : List ℕ) (i at : ℕ) → at ≡ getD t (item-next + i) 0 → Goes s t i at
+goes-starts s t i at is = record { each = λ form here less. going-starts s t here i less at is }
+
+module _ {form : Form} (s t : List ℕ) (here : At-hand form s t) (i : ℕ) (less : i < items-of (plan-in form s t)) (at : ℕ) (goes : Goes s t i at) where
+  pub goes-to : at ≤ format .items → Followed form s t i at
+  goes-to h = goes-there s t here i at (goes .each form here less) h
+
+  module _ (more : format .items < at) where
+    pub goes-fits : Fits w64 (format .items + (at - around-from))
+    goes-fits = around-fits s t here i at (goes .each form here less) more
+
+    pub goes-inside : format .items + (at - around-from) < slots
+    goes-inside = around-there s t here i at (goes .each form here less) more
+
+    pub goes-less : (next : ℕ) → next ≡ getD t (item-next + (at - around-from)) 0 → next < at
+    goes-less next is = going-less s t here i at (goes .each form here less) more next is
+
+pub goes-around : (s t : List ℕ) (i at : ℕ) → Goes s t i at → format .items < at → (next : ℕ) → next ≡ getD t (item-next + (at - around-from)) 0 → Goes s t i next
+goes-around s t i at goes more next is = record { each = λ form here less. going-on-around s t here i at (goes .each form here less) more next is }
+
 -- INTO A BRANCH whose sequence has an item, or none.
 module _ (form : Form) (s t : List ℕ) (i p met q : ℕ) (at : q ≡ sequence-place form s p) (empty : Bool) (tested : empty ≡ no-item s q) where
   tested-there : no-item s (sequence-place form s p) ≡ empty
@@ -143,6 +171,20 @@ module _ (form : Form) (s t : List ℕ) (i p met q : ℕ) (at : q ≡ sequence-p
 
   pub into-item : empty ≡ false → Into form s t i p met met
   into-item e = record { empty = λ bare. clash bare (tested-there ∙ e); other = λ _. refl }
+
+-- A CONDITION of either form.
+pub flags-listed : (form : Form) (s : List ℕ) (p : ℕ) → form ≡ Flags → Literals-here form s p → List-here all-literals s p
+flags-listed form s p is here = subst (λ (f : Form). Literals-here f s p) is here
+
+pub values-listed : (form : Form) (s : List ℕ) (p : ℕ) → form ≡ Valued → Literals-here form s p → Values-here s p
+values-listed form s p is here = subst (λ (f : Form). Literals-here f s p) is here
+
+pub flags-known : (form : Form) (s : List ℕ) (marks : State) (p : ℕ) (r : Bool) → form ≡ Flags → r ≡ each-of (holds-as Known marks) (listed s p) → r ≡ each-of (knows-as form s marks) (listed-as form s p)
+unfolding holds-as
+flags-known form s marks p r is e = rw is e
+
+pub values-known : (form : Form) (s : List ℕ) (marks : State) (p : ℕ) (r : Bool) → form ≡ Valued → r ≡ each-of (Value.known (literals-in s) marks) (listed-as Valued s p) → r ≡ each-of (knows-as form s marks) (listed-as form s p)
+values-known form s marks p r is e = rw is e
 
 -- WHERE A BRANCHING GOES ON. Its walk is the walk by these branches, and then by what is after it.
 abbrev pub Walks-by : Form → (s t : List ℕ) (i : ℕ) → State → Sequence ℕ → Branches ℕ → Type 0

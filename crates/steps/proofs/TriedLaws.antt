@@ -159,7 +159,7 @@ Led : Step State → Type 0
 Led (leads-to o) = Unit {0}
 Led (refuses n c) = ⊥
 
-not-led : (n : ℕ) (c : Concerned State) (o : Outcome State) → refuses n c ≡ leads-to o → ⊥
+pub not-led : (n : ℕ) (c : Concerned State) (o : Outcome State) → refuses n c ≡ leads-to o → ⊥
 unfolding Led
 not-led n c o e = subst Led (sym e) tt
 

@@ -134,8 +134,8 @@ tries-as form s t a marks r =
 
 -- The step: in its mode, and with guards where there are any.
 abbrev pub lacks-as : Form → (s t : List ℕ) → State → Found
-lacks-as Flags s t marks = first-missed (known marks) (guards-in s t)
-lacks-as Valued s t marks = nowhere
+lacks-as Flags s t = λ marks. first-missed (known marks) (guards-in s t)
+lacks-as Valued s t = λ _. nowhere
 
 unfoldable pub step-in : Form → (s t : List ℕ) → Steps State ℕ
 step-in form s t = record { does = does-as form s t; knows = knows-as form s; lacks = lacks-as form s t }
