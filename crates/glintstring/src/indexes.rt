@@ -19,7 +19,7 @@ use verdicts::answers::uncounted;
 // The index of a settled request goes to the room, where it fits.
 fn write_index(request: &[u8], t: &Notes, room: &mut [u8]) -> Answer
     requires { ⌜ Table-here Flags (now request) (now t) ⌝ }
-    ensures { λ r. ⌜ record { answer = r; room = now (room .exit) } ≡ build-got (now (room .entry)) (got (request-in (now (request .entry)) (now (t .entry))) 0) ⌝ }
+    ensures { λ r. ⌜ record { answer = r; room = now (room .exit) } ≡ build-got (now (room .entry)) (got (request-in Flags (now (request .entry)) (now (t .entry))) 0) ⌝ }
 {
     let length = index_length(request, t);
     if room.len() < length {

@@ -34,9 +34,9 @@ const BY_CASES: usize = 1;
 
 // The walk of a settled request, and the line of the action that stopped it.
 fn walk_with_line(request: &[u8], t: &Notes, state: &mut [u8], budget: u32) -> Judged
-    requires { ⌜ At-hand (now request) (now t) ⌝ }
+    requires { ⌜ At-hand Flags (now request) (now t) ⌝ }
     requires { ⌜ length (now state) ≡ format .state ⌝ }
-    ensures given { λ r. ⌜ record { answer = r .answer; state = now (state .exit) } ≡ within (now (state .entry)) budget (walk-held (now (request .entry)) (now (t .entry))) ⌝ }
+    ensures given { λ r. ⌜ record { answer = r .answer; state = now (state .exit) } ≡ within (now (state .entry)) budget (walk-held Flags (now (request .entry)) (now (t .entry))) ⌝ }
     ensures line { λ r. ⌜ r .line ≡ line-told (table-in Flags (now (request .entry))) (now (request .entry)) (record { answer = r .answer; state = now (state .exit) }) ⌝ }
 {
     let answer = walk_plan(request, t, state, budget);

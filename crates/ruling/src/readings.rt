@@ -131,7 +131,7 @@ fn each_reading(
     i: usize,
     k: usize,
 ) -> Used
-    requires { ⌜ At-hand (now s) (now t) ⌝ }
+    requires { ⌜ At-hand Flags (now s) (now t) ⌝ }
     requires { ⌜ a < format .actions ⌝ }
     requires { ⌜ Marked marks ⌝ }
     requires { ⌜ i < lines ⌝ }
@@ -142,7 +142,7 @@ fn each_reading(
         let above = f + 1;
         let mut state = marks;
         state[f] = limits::TRUE_MARK;
-        let g = next_unknown(s, t, a, above, &state);
+        let g = next_unknown(Form::Flags, s, t, a, above, &state);
         match each_reading(layout, s, t, d, places, a, g, state, lines, i, k) {
             Used::To(j) => {
                 state[f] = limits::FALSE_MARK;
@@ -166,7 +166,7 @@ pub fn rule_3(
     i: usize,
     l: Spot,
 ) -> bool
-    requires { ⌜ At-hand (now s) (now t) ⌝ }
+    requires { ⌜ At-hand Flags (now s) (now t) ⌝ }
     requires { ⌜ Some-line (now d) l ⌝ }
     requires { ⌜ Some-lines layout (now d) (now places) lines ⌝ }
     requires { ⌜ i < lines ⌝ }
@@ -185,12 +185,12 @@ pub fn rule_3(
         return false;
     }
     let a = wide(d[first]);
-    let sensing = is_sensing(s, t, a);
+    let sensing = is_sensing(Form::Flags, s, t, a);
     if sensing {
         let marks = state_of(d, p);
         let runs = can_be_run(s, t, a, &marks);
         if runs {
-            let f = first_unknown(s, t, a, &marks);
+            let f = first_unknown(Form::Flags, s, t, a, &marks);
             let counted = l.cites;
             let cited = wide(d[counted]);
             match each_reading(layout, s, t, d, places, a, f, marks, lines, i, 0) {

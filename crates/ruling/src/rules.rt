@@ -44,7 +44,7 @@ pub fn rule_1(d: &[u8], l: Spot) -> bool
 
 // Rule 2: one action without knowledge lines that can be run in X, and Y is the state after it.
 pub fn rule_2(s: &[u8], t: &Notes, d: &[u8], l: Spot) -> bool
-    requires { ⌜ At-hand (now s) (now t) ⌝ }
+    requires { ⌜ At-hand Flags (now s) (now t) ⌝ }
     requires { ⌜ Some-line (now d) l ⌝ }
     ensures { λ r. ⌜ Ruled (now (d .entry)) l (rule-2 format (table-in Flags (now (s .entry)))) r ⌝ }
 {
@@ -63,7 +63,7 @@ pub fn rule_2(s: &[u8], t: &Notes, d: &[u8], l: Spot) -> bool
         return false;
     }
     let a = wide(d[first]);
-    let sensing = is_sensing(s, t, a);
+    let sensing = is_sensing(Form::Flags, s, t, a);
     if sensing {
         return false;
     }
@@ -148,7 +148,7 @@ pub fn rule_6(d: &[u8], cited: Spot, l: Spot) -> bool
 
 // Rule 7: one action that can be run in X and has a knowledge line for the fluent.
 pub fn rule_7(s: &[u8], t: &Notes, d: &[u8], l: Spot) -> bool
-    requires { ⌜ At-hand (now s) (now t) ⌝ }
+    requires { ⌜ At-hand Flags (now s) (now t) ⌝ }
     requires { ⌜ Some-line (now d) l ⌝ }
     ensures { λ r. ⌜ Ruled (now (d .entry)) l (rule-7 format (table-in Flags (now (s .entry)))) r ⌝ }
 {

@@ -78,10 +78,10 @@ fn byte_after(n: usize, m: usize, file: &[u8], plans: usize, start: usize) -> Fo
 
 // What the walk call answers of the plan at hand: 18, or how its walk ended. The state concerned is handed to nobody.
 fn answer_plan(file: &[u8], t: &Notes, budget: u32) -> Answer
-    requires { ⌜ At-hand (now file) (now t) ⌝ }
+    requires { ⌜ At-hand Flags (now file) (now t) ⌝ }
     requires { ⌜ guards-in (now file) (now t) ≡ [] ⌝ }
     requires { ⌜ mode-in (now t) ≡ 0 ⌝ }
-    ensures { λ r. ⌜ r ≡ plan-answer format budget (got (request-in (now (file .entry)) (now (t .entry))) 0) ⌝ }
+    ensures { λ r. ⌜ r ≡ plan-answer format budget (got (request-in Flags (now (file .entry)) (now (t .entry))) 0) ⌝ }
 {
     let items = get(t, notes::ITEMS);
     match overlap(file, t, items) {
