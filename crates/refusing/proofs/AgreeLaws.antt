@@ -50,7 +50,7 @@ agreeing-starts s t a one other k here small at =
     }
   where
     line : (x : Executability) → Has (executability-of (table-in Flags s) a) x → (listed s (x .place + 1) ≡ x .body) × List-here all-literals s (x .place + 1)
-    line x has = here .line x (those-has _ (table-in Flags s .executability) x has .0)
+    line x has = let stands = here .line x (those-has _ (table-in Flags s .executability) x has .0) in (stands .0, stands .1)
 
 module _ (s t : List ℕ) (one other : State) (whole : Bool) (k : ℕ) (run : Agreeing s t one other whole k) where
   pub agreeing-done : k ≤ 0 → false ≡ whole

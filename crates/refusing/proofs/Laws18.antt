@@ -7,19 +7,23 @@ use mathlib.Core.List.{List}
 use lib.ListN.{length, getD}
 use borrow.Author.Tests.{eq-eqb, ne-eqb}
 use Rattle.meaning.specs.Tests.{both, fails, pick, each-of}
-use Rattle.meaning.specs.Limits.{format}
+use Rattle.meaning.specs.Limits.{format, all-literals}
 use Rattle.meaning.specs.Refusals
 use Rattle.meaning.specs.States.{State, state-of}
 use Rattle.meaning.proofs.TestLaws.{pick-true, pick-false}
-use Rattle.reading.specs.Listed.{listed, holds-as}
+use Rattle.reading.specs.Listed.{listed, List-here, holds-as}
 use Rattle.reading.specs.declared.marks.Test.the-variants.{Possible}
 use Rattle.finding.specs.declared.places.Found.{Found}
 use Rattle.finding.specs.declared.places.Found.the-variants.{Nowhere, At}
 use Rattle.finding.specs.Places.{found}
 use Rattle.finding.specs.Branches.{place-after, item-after, conditions-from, Branches-here, Item-here}
 use Rattle.refusing.specs.Refusal18.{rules-out, all-apart, item-apart, first-overlap}
-use Rattle.finding.proofs.ByBranch.{conditions-first, conditions-done}
+use Rattle.finding.proofs.ByBranch.{conditions-first, conditions-done, condition-first}
 use Rattle.meaning.specs.declared.Form.the-variants.{Flags}
+
+-- THE FIRST of some branches has a condition.
+pub flags-condition : (s t : List ℕ) (left p i : ℕ) → 0 < left → Branches-here Flags s t left p i → List-here all-literals s p
+flags-condition = condition-first Flags
 
 -- ONE STATE against the conditions.
 module _ (whole : Bool) (s t : List ℕ) (held : State) (left p i : ℕ) (so-far : whole ≡ each-of (rules-out held) (conditions-from Flags s t left p i)) where

@@ -28,6 +28,7 @@ use Rattle.finding.proofs.PlanHere.{listed-below, conditions-are, clear-of}
 use Rattle.meaning.specs.declared.Form.the-variants.{Flags}
 use Rattle.meaning.specs.Reading.{got, Met, plan-at}
 use Rattle.meaning.proofs.SettledLaws.{got-same}
+use Rattle.bytes.proofs.LineReaderLaws.{counted-flags}
 use Rattle.bytes.specs.declared.bytes.Read.{Read}
 use Rattle.bytes.specs.declared.bytes.Read.the-variants.{Value}
 use Rattle.reading.specs.Noted.{effect-lines}
@@ -138,4 +139,4 @@ module _ (n m : ℕ) (s : List ℕ) (small : n ≤ format .fluents) (few : m ≤
   overlap-left f all x q read =
       let w = met-value (plan-noted Flags p t) (plan-at format Flags n m s p) r u count e left is in
       let same : with-items (w .0) count ≡ x = got-same (sym (w .1) ∙ read) in
-      subst (λ (y : Met (Sequence ℕ)). f ≡ found (overlap-in (y .value))) same (all .holds (w .0) (subst (λ (v : List ℕ). Plan-held Flags s v (w .0)) (sym (w .2)) (plan-held Flags n m s small few p t (with-items (w .0) count) e room (w .1))) (plan-items Flags n m s small few p t (with-items (w .0) count) e room (w .1)))
+      subst (λ (y : Met (Sequence ℕ)). f ≡ found (overlap-in (y .value))) same (all .holds (w .0) (subst (λ (v : List ℕ). Plan-held Flags s v (w .0)) (sym (w .2)) (plan-held Flags n m s small few (counted-flags s) p t (with-items (w .0) count) e room (w .1))) (plan-items Flags n m s small few (counted-flags s) p t (with-items (w .0) count) e room (w .1)))

@@ -162,7 +162,7 @@ module _ (s : List ℕ) (bytes : (i : ℕ) → Fits w8 (getD s i 0)) (t : List �
     table-ends =
         let place = there .place in
         let stands : plan-place Flags x ≡ place = request-parts Flags s (table-in Flags s) place x (here .end) tail .placed in
-        let at : plan ≡ place = slot-is plan-slot plan is ∙ plan-noted-at s (table-in Flags s) (whole-here .few) (whole-here .less) place x (here .end) tail u (here .guards) (comes .sized) ∙ stands in
+        let at : plan ≡ place = slot-is plan-slot plan is ∙ plan-noted-at Flags s (table-in Flags s) (whole-here .few) (whole-here .less) (whole-here .values) place x (here .end) tail u (here .guards) (comes .sized) ∙ stands in
         rw (same-table, at) (there .table-read)
 
     module _ (e : ℕ) where
@@ -182,12 +182,12 @@ module _ (s : List ℕ) (bytes : (i : ℕ) → Fits w8 (getD s i 0)) (t : List �
   -- 18.
   module _ (count : ℕ) (is : count ≡ getD t items-slot 0) where
     count-18 : items-of (x .plan) ≡ count
-    count-18 = sym (slot-is items-slot count is ∙ items-noted s (table-in Flags s) (whole-here .few) (whole-here .less) (there .place) x (here .end) tail u (here .guards) (comes .sized))
+    count-18 = sym (slot-is items-slot count is ∙ items-noted Flags s (table-in Flags s) (whole-here .few) (whole-here .less) (whole-here .values) (there .place) x (here .end) tail u (here .guards) (comes .sized))
 
     held-18 : Plan-held Flags s t (x .plan)
     held-18 =
         subst (λ (v : List ℕ). Plan-held Flags s v (x .plan)) (sym tail-is)
-        (tail-held s (table-in Flags s) (whole-here .few) (whole-here .less) (there .place) x (here .end) tail u (here .guards) (comes .sized))
+        (tail-held Flags s (table-in Flags s) (whole-here .few) (whole-here .less) (whole-here .values) (there .place) x (here .end) tail u (here .guards) (comes .sized))
 
     pub stand-18 : Some-plan Flags s t count
     stand-18 = record { plan = x .plan; held = held-18; items = count-18 }
@@ -239,7 +239,7 @@ module _ (s t u : List ℕ) (empty : t ≡ blank) (all : Passed) (read : outcome
     read-got = noting-got (request-noted Flags) (read-request format Flags s) all t u read e is
 
     pub settle-here : Read-here Flags s u
-    settle-here = plain-here Flags s u (read-got .0) e (read-got .1) (read-got .2 ∙ ap (request-noted Flags (read-got .0)) empty)
+    settle-here = plain-here s u Flags (read-got .0) e (read-got .1) (read-got .2 ∙ ap (request-noted Flags (read-got .0)) empty)
 
     pub settle-there : (r : Passed) → r ≡ passed (past-all s e) → outcome r u ≡ noting (request-noted Flags) (settled format s) t
     unfolding settled

@@ -2,8 +2,8 @@
 use mathlib.Core.Path.{_≡_}
 use Rattle.finding.specs.Branches.{conditions-from, Branches-here}
 use Rattle.refusing.specs.Refusal18.{all-apart}
-use Rattle.finding.proofs.ByBranch.{branch-first, condition-first, branches-next}
-use Rattle.refusing.proofs.Laws18.{apart-not, apart-next, apart-done}
+use Rattle.finding.proofs.ByBranch.{branch-first, branches-next}
+use Rattle.refusing.proofs.Laws18.{flags-condition, apart-not, apart-next, apart-done}
 use borrow.Author.Needs.{needs}
 use Rattle.refusing.proofs.refusal_18.all_exclusive.Statement.{statement}
 use Rattle.refusing.proofs.refusal_18.all_exclusive.Tie as tie
@@ -27,7 +27,7 @@ loop-holds c = search needs
 
 -- src/refusal_18.rt:52:20
 state-of-requires : tie.Need-state-of-requires Inv-loop μ-loop
-state-of-requires c κs = search (needs, condition-first)
+state-of-requires c κs = search (needs, flags-condition)
 
 -- src/refusal_18.rt:53:13
 next-place-requires : tie.Need-next-place-requires Inv-loop μ-loop

@@ -3,8 +3,8 @@ use mathlib.Core.Path.{_≡_}
 use Rattle.meaning.specs.Tests.{each-of}
 use Rattle.finding.specs.Branches.{conditions-from, Branches-here}
 use Rattle.refusing.specs.Refusal18.{rules-out}
-use Rattle.finding.proofs.ByBranch.{branch-first, condition-first, branches-next}
-use Rattle.refusing.proofs.Laws18.{out-not, out-next, out-done}
+use Rattle.finding.proofs.ByBranch.{branch-first, branches-next}
+use Rattle.refusing.proofs.Laws18.{flags-condition, out-not, out-next, out-done}
 use borrow.Author.Needs.{needs}
 use Rattle.refusing.proofs.refusal_18.excludes.Statement.{statement}
 use Rattle.refusing.proofs.refusal_18.excludes.Tie as tie
@@ -27,7 +27,7 @@ loop-holds c = search needs
 
 -- src/refusal_18.rt:30:13
 each-holds-requires : tie.Need-each-holds-requires Inv-loop μ-loop
-each-holds-requires c κs = search (needs, condition-first)
+each-holds-requires c κs = search (needs, flags-condition)
 
 -- src/refusal_18.rt:32:13
 returns : tie.Need-returns Inv-loop μ-loop
