@@ -83,7 +83,7 @@ module _ (n m : ℕ) (s : List ℕ) where
       there : (l : Line) → (w : Line-plan p l) → plan-at format Flags n m s plan ≡ got (w .plan) (w .end)
       there l w = ap (plan-at format Flags n m s) after ∙ w .reads
 
-      pub line-sought : (count e : ℕ) (f : Found) → length t ≡ slots → r ≡ Value count e → Overlap-found s u count f → Line-found n m s p f
+      pub line-sought : (count e : ℕ) (f : Found) → length t ≡ slots → r ≡ Value count e → Overlap-found Flags s u count f → Line-found n m s p f
       line-sought count e f room is all =
           record {
             holds = λ layout l here.
