@@ -128,14 +128,7 @@ fn values_exclusive(s: &[u8], t: &Notes, count: usize, place: usize, item: usize
 }
 
 // EITHER. Every two conditions of a given number of branches are exclusive.
-fn all_exclusive(
-    form: Form,
-    s: &[u8],
-    t: &Notes,
-    count: usize,
-    place: usize,
-    item: usize,
-) -> bool
+fn all_exclusive(form: Form, s: &[u8], t: &Notes, count: usize, place: usize, item: usize) -> bool
     requires { ⌜ Counted form (now s) ⌝ }
     requires { ⌜ Branches-here form (now s) (now t) count place item ⌝ }
     ensures { λ r. ⌜ r ≡ all-apart form (now (s .entry)) (conditions-from form (now (s .entry)) (now (t .entry)) count place item) ⌝ }
