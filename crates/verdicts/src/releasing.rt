@@ -84,7 +84,7 @@ fn answer_plan(file: &[u8], t: &Notes, budget: u32) -> Answer
     ensures { λ r. ⌜ r ≡ plan-answer format budget (got (request-in Flags (now (file .entry)) (now (t .entry))) 0) ⌝ }
 {
     let items = get(t, notes::ITEMS);
-    match overlap(file, t, items) {
+    match overlap(Form::Flags, file, t, items) {
         Found::Nowhere => {
             let mut state = [0u8; limits::FLUENTS];
             walk_plan(file, t, &mut state, budget)
@@ -201,7 +201,7 @@ fn release_opened(
     if row.len() != ROW_NUMBERS * plans {
         return uncounted(answers::STATE_LENGTH, answers::NEITHER_INPUT, 0);
     }
-    match table_refused(file, t, start - 1) {
+    match table_refused(Form::Flags, file, t, start - 1) {
         Passed::To(_) => answer_file(file, t, row, budget, plans, start),
         Passed::Fault(k, p) => uncounted(k, answers::THE_REQUEST, p),
     }
