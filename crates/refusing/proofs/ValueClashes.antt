@@ -21,7 +21,7 @@ use Rattle.reading.specs.Listed.{listed-as, Values-here}
 use Rattle.valuing.specs.Valuing
 use Rattle.valuing.proofs.TwosLaws.{listed-fluent}
 use Rattle.valuing.proofs.AgreeingLaws.{agreeing-is}
-use Rattle.finding.specs.LinesHere.{literal-from, effect-from, Effect-here, Value-here}
+use Rattle.finding.specs.LinesHere.{literal-from, effect-from, Effect-here}
 use Rattle.finding.specs.TablesHere.{table-in, Runs-here}
 use Rattle.refusing.specs.Refusal16.{contradictory-as, agreeing-sets, passing-lines, sets-apart, buckets, bucket-at}
 

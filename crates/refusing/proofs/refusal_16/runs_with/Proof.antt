@@ -20,43 +20,43 @@ Inv-loop s t a one other k₀ k = Passing Flags s t (agreeing one other) (passin
 abbrev μ-loop : tie.MeasureT-loop
 μ-loop s t a one other k₀ k = to-go k
 
--- src/refusal_16.rt:74:9
+-- src/refusal_16.rt:90:9
 first-line-requires : tie.Need-first-line-requires Inv-loop μ-loop
 first-line-requires c κs = search needs
 
--- src/refusal_16.rt:75:5
+-- src/refusal_16.rt:91:5
 loop-holds : tie.Need-loop-holds Inv-loop μ-loop
 loop-holds c = search passing-starts
 
--- src/refusal_16.rt:76:13
+-- src/refusal_16.rt:92:13
 line-place-requires : tie.Need-line-place-requires Inv-loop μ-loop
 line-place-requires c κs = search (needs, line-few)
 
--- src/refusal_16.rt:77:20
+-- src/refusal_16.rt:93:20
 add-body : tie.Need-add-body Inv-loop μ-loop
 add-body c = search run-body-fits
 
--- src/refusal_16.rt:78:13
+-- src/refusal_16.rt:94:13
 agrees-requires : tie.Need-agrees-requires Inv-loop μ-loop
 agrees-requires c κs = search (needs, flags-run)
 
--- src/refusal_16.rt:80:13
+-- src/refusal_16.rt:96:13
 returns : tie.Need-returns Inv-loop μ-loop
 returns c = search passing-met
 
--- src/refusal_16.rt:82:9
+-- src/refusal_16.rt:98:9
 next-line-requires : tie.Need-next-line-requires Inv-loop μ-loop
 next-line-requires c κs = search (needs, line-few)
 
--- src/refusal_16.rt:75:5
+-- src/refusal_16.rt:91:5
 loop-less : tie.Need-loop-less Inv-loop μ-loop
 loop-less c = search line-less
 
--- src/refusal_16.rt:75:5
+-- src/refusal_16.rt:91:5
 loop-again : tie.Need-loop-again Inv-loop μ-loop
 loop-again c = search passing-next
 
--- src/refusal_16.rt:69:1
+-- src/refusal_16.rt:85:1
 returns-2 : tie.Need-returns-2 Inv-loop μ-loop
 returns-2 c = search passing-done
 

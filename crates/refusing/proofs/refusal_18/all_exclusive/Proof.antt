@@ -9,19 +9,19 @@ use Rattle.refusing.proofs.refusal_18.all_exclusive.Lts as lts
 use Rattle.refusing.proofs.refusal_18.flags_exclusive.Reads as flags-exclusive-reads
 use Rattle.refusing.proofs.refusal_18.values_exclusive.Reads as values-exclusive-reads
 
--- src/refusal_18.rt:144:24
+-- src/refusal_18.rt:137:24
 enum-told : tie.Need-enum-told
 enum-told c = search needs
 
--- src/refusal_18.rt:144:24
+-- src/refusal_18.rt:137:24
 flags-exclusive-requires : tie.Need-flags-exclusive-requires
 flags-exclusive-requires c κs = search branches-as
 
--- src/refusal_18.rt:145:25
+-- src/refusal_18.rt:138:25
 enum-told-2 : tie.Need-enum-told-2
 enum-told-2 c = search needs
 
--- src/refusal_18.rt:145:25
+-- src/refusal_18.rt:138:25
 values-exclusive-requires : tie.Need-values-exclusive-requires
 values-exclusive-requires c κs = (search counted-values, search branches-as)
 

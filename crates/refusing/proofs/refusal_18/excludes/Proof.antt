@@ -21,39 +21,39 @@ Inv-loop s t held count place item left₀ p₀ i₀ left p i = (Branches-here F
 abbrev μ-loop : tie.MeasureT-loop
 μ-loop s t held count place item left₀ p₀ i₀ left p i = left
 
--- src/refusal_18.rt:29:5
+-- src/refusal_18.rt:35:5
 loop-holds : tie.Need-loop-holds Inv-loop μ-loop
 loop-holds c = search needs
 
--- src/refusal_18.rt:30:13
+-- src/refusal_18.rt:36:13
 each-holds-requires : tie.Need-each-holds-requires Inv-loop μ-loop
 each-holds-requires c κs = search (needs, flags-condition)
 
--- src/refusal_18.rt:32:13
+-- src/refusal_18.rt:38:13
 returns : tie.Need-returns Inv-loop μ-loop
 returns c = search flags-not
 
--- src/refusal_18.rt:34:13
+-- src/refusal_18.rt:40:13
 next-place-requires : tie.Need-next-place-requires Inv-loop μ-loop
 next-place-requires c κs = search (needs, branch-first)
 
--- src/refusal_18.rt:35:13
+-- src/refusal_18.rt:41:13
 next-item-requires : tie.Need-next-item-requires Inv-loop μ-loop
 next-item-requires c κs = search (needs, branch-first)
 
--- src/refusal_18.rt:38:9
+-- src/refusal_18.rt:44:9
 sub-left : tie.Need-sub-left Inv-loop μ-loop
 sub-left c = search needs
 
--- src/refusal_18.rt:29:5
+-- src/refusal_18.rt:35:5
 loop-less : tie.Need-loop-less Inv-loop μ-loop
 loop-less c = search needs
 
--- src/refusal_18.rt:29:5
+-- src/refusal_18.rt:35:5
 loop-again : tie.Need-loop-again Inv-loop μ-loop
 loop-again c = search (needs, branches-next, flags-next)
 
--- src/refusal_18.rt:22:1
+-- src/refusal_18.rt:28:1
 returns-2 : tie.Need-returns-2 Inv-loop μ-loop
 returns-2 c = search out-done
 

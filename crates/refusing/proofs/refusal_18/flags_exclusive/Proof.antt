@@ -21,43 +21,43 @@ Inv-loop s t count place item left₀ p₀ i₀ left p i = (Branches-here Flags 
 abbrev μ-loop : tie.MeasureT-loop
 μ-loop s t count place item left₀ p₀ i₀ left p i = left
 
--- src/refusal_18.rt:51:5
+-- src/refusal_18.rt:57:5
 loop-holds : tie.Need-loop-holds Inv-loop μ-loop
 loop-holds c = search needs
 
--- src/refusal_18.rt:52:20
+-- src/refusal_18.rt:58:20
 state-of-requires : tie.Need-state-of-requires Inv-loop μ-loop
 state-of-requires c κs = search (needs, flags-condition)
 
--- src/refusal_18.rt:53:13
+-- src/refusal_18.rt:59:13
 next-place-requires : tie.Need-next-place-requires Inv-loop μ-loop
 next-place-requires c κs = search (needs, branch-first)
 
--- src/refusal_18.rt:54:13
+-- src/refusal_18.rt:60:13
 next-item-requires : tie.Need-next-item-requires Inv-loop μ-loop
 next-item-requires c κs = search (needs, branch-first)
 
--- src/refusal_18.rt:55:22
+-- src/refusal_18.rt:61:22
 sub-others : tie.Need-sub-others Inv-loop μ-loop
 sub-others c = search needs
 
--- src/refusal_18.rt:56:13
+-- src/refusal_18.rt:62:13
 excludes-requires : tie.Need-excludes-requires Inv-loop μ-loop
 excludes-requires c κs = search (needs, branches-next)
 
--- src/refusal_18.rt:51:5
+-- src/refusal_18.rt:57:5
 loop-less : tie.Need-loop-less Inv-loop μ-loop
 loop-less c = search needs
 
--- src/refusal_18.rt:51:5
+-- src/refusal_18.rt:57:5
 loop-again : tie.Need-loop-again Inv-loop μ-loop
 loop-again c = search (needs, branches-next, flags-apart-next)
 
--- src/refusal_18.rt:63:9
+-- src/refusal_18.rt:69:9
 returns : tie.Need-returns Inv-loop μ-loop
 returns c = search flags-apart-not
 
--- src/refusal_18.rt:44:1
+-- src/refusal_18.rt:50:1
 returns-2 : tie.Need-returns-2 Inv-loop μ-loop
 returns-2 c = search apart-done
 
