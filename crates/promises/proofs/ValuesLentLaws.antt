@@ -1,7 +1,7 @@
 -- What the values call leaves in the lent bytes with answers 1 and 2: the state that the end of its walk concerns, whose marks are at most the numbers of values, and 0 from the fluent count
 -- on (FORMAT 26.15, 26.30). The facts, the literals of effects and the sensed fluents were read below that count, so no step sets a mark from there up, and a walk keeps what its steps keep.
 -- Assumes nothing.
-use Prim.Native.Nat.{ℕ, zero, suc, _+_, _*_, _/_, _≤_, _<_}
+use Prim.Native.Nat.{ℕ, zero, suc, _+_, _/_, _≤_, _<_}
 use native.Mathlib.Omega.{arith}
 use native.Mathlib.Decide.{decLt}
 use mathlib.Core.Path.{_≡_, refl, sym, _∙_, ap, subst}
@@ -9,23 +9,22 @@ use mathlib.Core.Bool.{Bool, true, false}
 use mathlib.Core.List.{List, [], _∷_, map}
 use mathlib.Core.Logic.{inl, inr, ⊎-elim}
 use lib.ListN.{length, getD, List·getD-eq-default}
-use lib.Dec.{ltb}
 use lib.Seq.{getD-set-other}
 use borrow.Author.Tests.{eqb-true, le-ltb}
 use Rattle.meaning.specs.declared.Form.the-variants.{Valued}
-use Rattle.meaning.specs.Tests.{both, pick, those-of, Has}
+use Rattle.meaning.specs.Tests.{pick, those-of, Has}
 use Rattle.meaning.specs.Limits.{format}
 use Rattle.meaning.specs.Literals.{among}
 use Rattle.meaning.specs.Requests.{Effect, Knowledge, Table, Request}
 use Rattle.meaning.specs.Reading.{got, count-at, below-at, fluents, list-at, values-in, literals-in, value-at, value-entry-at, value-entries-at, value-list-at, set-value-at, value-counts-at, section-at, body-at, effect-at, executability-at, knowledge-at, plan-at, table-at, request-at, read-request}
 use Rattle.meaning.specs.Lines.{effects-of, knowledge-of, senses}
 use Rattle.meaning.specs.States.{State, Outcome}
-use Rattle.meaning.specs.Walk.{Step, end-of}
+use Rattle.meaning.specs.Walk.{Step}
 use Rattle.meaning.specs.Values.{numbers, values-of, set-by, fits}
-use Rattle.meaning.specs.ValueStates.{is-known, told, mark-left, each-value, first-state, known, known-after, mark-after, state-after, unknown-sensed, readings, outcome, table-does, table-step, missed-in, judged, walked}
+use Rattle.meaning.specs.ValueStates.{is-known, told, mark-left, each-value, first-state, known-after, mark-after, state-after, unknown-sensed, readings, outcome, table-does, table-step, missed-in, judged, walked}
 use Rattle.meaning.specs.Valued.{settled-values, walk-of, judge-values}
 use Rattle.meaning.specs.AnswerParts.{stated}
-use Rattle.meaning.proofs.TestLaws.{by-test, both-left, both-right, either-split, pick-cases, pick-false, some-has, those-has}
+use Rattle.meaning.proofs.TestLaws.{by-test, both-left, either-split, pick-cases, pick-false, some-has, those-has}
 use Rattle.meaning.proofs.PickLaws.{pick-has}
 use Rattle.meaning.proofs.SettledLaws.{fault≢got, got-same}
 use Rattle.meaning.proofs.RefusalLaws.{at≢nowhere}
