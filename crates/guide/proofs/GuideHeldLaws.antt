@@ -30,7 +30,7 @@ use Rattle.steps.specs.AtHand.{At-hand, Marked}
 use Rattle.steps.specs.Rests.{rest-at, start, Position}
 use Rattle.steps.proofs.HandLaws.{facts-here, few-items}
 use Rattle.steps.proofs.ToldMarks.{marked-as}
-use Rattle.steps.proofs.FirstLaws.{rest-first, first-is, at-is, starts-there}
+use Rattle.steps.proofs.FirstLaws.{rest-first, first-flags, at-is, starts-there}
 use Rattle.glintstring.proofs.SettledAtHand.{settled-got, settled-at-hand, settled-held}
 use Rattle.guidance.specs.declared.Told.{Told}
 use Rattle.guidance.specs.declared.Told.the-variants.{Do, Done, Refused}
@@ -135,7 +135,7 @@ module _ (s t u : List ℕ) (r : Passed) (settles : outcome r u ≡ noting (requ
           held-there (format .actions) at marks (starts-there s u here items at counted starts) (marked-as (listed s 2) marks is)
           ∙ ap (λ (fs : List ℕ). going (table-in Flags s) fs (rest-at (plan-in Flags s u) at) marks) (asked-none s (format .actions) (omega arith))
           ∙ ap (λ (b : Sequence ℕ). going (table-in Flags s) [] b marks) (ap (rest-at (plan-in Flags s u)) (at-is s u here items at counted starts) ∙ rest-first (plan-in Flags s u))
-          ∙ ap (going (table-in Flags s) [] (plan-in Flags s u)) (first-is s u here marks is)
+          ∙ ap (going (table-in Flags s) [] (plan-in Flags s u)) (first-flags s u here marks is)
 
       pub begins : Begins s (guide-held s (format .actions) at marks)
       unfolding request-in

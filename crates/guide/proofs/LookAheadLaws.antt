@@ -7,7 +7,7 @@ use mathlib.Core.Logic.{⊎-elim}
 use lib.ListN.{getD}
 use Rattle.meaning.specs.Limits.{format}
 use Rattle.meaning.specs.Requests.{Sequence, done, Branches, none, branch}
-use Rattle.meaning.specs.States.{State}
+use Rattle.meaning.specs.States.{State, known}
 use Rattle.meaning.proofs.TestLaws.{pick-true, pick-false}
 use Rattle.reading.specs.Planned.{items-of}
 use Rattle.finding.specs.declared.places.Found.{Found}

@@ -51,6 +51,7 @@ pub(crate) enum Ahead {
 pub(crate) fn look_ahead(s: &[u8], t: &Notes, at: usize, marks: &Marks) -> Ahead
     requires { ⌜ At-hand Flags (now s) (now t) ⌝ }
     requires { ⌜ Position (plan-in Flags (now s) (now t)) at ⌝ }
+    requires { ⌜ Marked (now marks) ⌝ }
     ensures { λ r. ⌜ came (now (s .entry)) (now (t .entry)) r ≡ ahead (now (marks .entry)) (rest-at (plan-in Flags (now (s .entry)) (now (t .entry))) at) ⌝ }
     ensures { λ r. ⌜ Action-there (now (s .entry)) (now (t .entry)) r ⌝ }
 {

@@ -35,7 +35,7 @@ shared-slice-read-if1 c = search (item-inside, looking-there)
 
 -- src/going.rt:60:19
 chosen-requires : tie.Need-chosen-requires Inv-loop μ-loop
-chosen-requires c κs = (search needs, (search looking-there, search place-branching))
+chosen-requires c κs = (search needs, (search looking-there, (search place-branching, search needs)))
 
 -- src/going.rt:61:27
 enum-known-j : tie.Need-enum-known-j Inv-loop μ-loop
