@@ -52,7 +52,7 @@ fn overlap_in_line(n: usize, m: usize, s: &[u8], p: usize, t: &mut Notes) -> Fou
     let plan = sequence_of(Form::Flags, s, p);
     notes::sized(t);
     match plan_at(Form::Flags, n, m, s, plan, t) {
-        Read::Value(count, e) => overlap(s, t, count),
+        Read::Value(count, e) => overlap(Form::Flags, s, t, count),
         Read::Fault(k, e) => Found::Nowhere,
     }
 }
