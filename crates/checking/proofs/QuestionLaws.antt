@@ -19,7 +19,7 @@ use Rattle.reading.specs.Noted.{plan-slot, items-slot, goals-slot}
 use Rattle.finding.specs.Branches.{sequence-place}
 use Rattle.steps.specs.Held.{table-in, plan-in, goals-in, whether-in, request-in}
 use Rattle.steps.specs.AtHand.{At-hand}
-use Rattle.steps.proofs.HandLaws.{starts, sections, is-whether}
+use Rattle.steps.proofs.HandLaws.{starts, sections, goals-here, is-whether}
 use Rattle.comparing.specs.declared.spots.Spot.{Spot}
 use Rattle.comparing.specs.Stands.{Plan-stands, Conclusion-stands, Stands}
 use Rattle.comparing.specs.RuleAnswers.{Some-plan, Same-plans, Some-concluded, Some-stands, Ruled}
@@ -59,6 +59,9 @@ module _ (s t : List ℕ) (here : At-hand Flags s t) where
     actions-few = let few = starts s t here .front .few in let same = actions-are in omega (arith, few, same)
 
   module _ (goals : ℕ) (at-goals : goals ≡ getD t goals-slot 0) where
+    pub goals-there : List-here all-literals s goals
+    goals-there = goals-here s t here goals at-goals
+
     goals-same : listed s goals ≡ values (request-in Flags s t .goals)
     unfolding request-in goals-in
     goals-same = rw at-goals (sym (placed-values (getD t goals-slot 0 + 1) (listed s (getD t goals-slot 0))))

@@ -21,6 +21,7 @@ use Rattle.meaning.proofs.TestLaws.{by-test}
 use Rattle.meaning.proofs.ToldLaws.{Clear, state-known}
 use Rattle.meaning.proofs.SettledLaws.{fault≢got, got-same}
 use Rattle.meaning.proofs.PlanReads.{Said, Passed-on, plan-on}
+use Rattle.bytes.proofs.LineReaderLaws.{counted-flags}
 use Rattle.bytes.specs.declared.bytes.Read.{Read}
 use Rattle.bytes.specs.declared.bytes.Read.the-variants.{Value, Fault}
 use Rattle.reading.specs.declared.marks.Test.the-variants.{Known}
@@ -431,7 +432,7 @@ module _ (n m : ℕ) (d : List ℕ) (w : Spot) where
                 let there = plan-of d w plan at l sl in
                 let b = branching-there d (plan + 2) (l .c) (own-some l sl) (there .tellable) (there .bytes) byte in
                 let whole : v .0 ≡ item (branching (b .place) (b .branches)) (b .rest) = tree ∙ b .is in
-                let read-there = plan-held Flags n m d few less plan t (with-items (v .0) items) e (omega (arith, long)) (v .1) in
+                let read-there = plan-held Flags n m d few less (counted-flags d) plan t (with-items (v .0) items) e (omega (arith, long)) (v .1) in
                 let held : Plan-held Flags d u (v .0) = subst (λ (x : List ℕ). Plan-held Flags d x (v .0)) (sym (v .2)) read-there in
                 let own = own-count d w plan at count counted l sl in let one = b .own in
                 record {

@@ -5,6 +5,7 @@ use mathlib.Core.Bool.{Bool, true}
 use mathlib.Core.List.{List, [], _∷_, map}
 use lib.ListN.{length, getD}
 use lib.Dec.{ltb}
+use Rattle.meaning.specs.declared.Form.the-variants.{Flags}
 use Rattle.meaning.specs.declared.Layout.{Layout}
 use Rattle.meaning.specs.Tests.{both, pick, each-of}
 use Rattle.meaning.specs.Limits.{format}
@@ -29,7 +30,6 @@ reads-at rest Y cited other s k = both (ltb k (length cited)) (says (getD cited 
 
 -- Each state is said by the next line, the first by line k.
 unfoldable pub used : Sequence ℕ → Conclusion → List Line → (other : Line) → List State → (k : ℕ) → Used
-use Rattle.meaning.specs.declared.Form.the-variants.{Flags}
 used rest Y cited other [] k = To k
 used rest Y cited other (s ∷ ss) k = pick (reads-at rest Y cited other s k) (λ _. used rest Y cited other ss (k + 1)) (λ _. Fails)
 

@@ -14,7 +14,7 @@ use Rattle.meaning.specs.Limits
 use Rattle.meaning.specs.Limits.{format}
 use Rattle.meaning.specs.Requests.{Table, Sequence, Branches, none, branch}
 use Rattle.meaning.specs.Lines.{sensing}
-use Rattle.meaning.specs.States.{State, can-be-run, state-after, unknown-sensed, Outcome, fork, readings, outcome}
+use Rattle.meaning.specs.States.{State, known, can-be-run, state-after, unknown-sensed, Outcome, fork, readings, outcome}
 use Rattle.meaning.specs.Walk.{Concerned, in-state, fine, stopped, Walked, Verified, stopped-at, stuck-at, each-reading, Step, refuses, after-step, run-action, walk, walk-branch, table-does, judged}
 use Rattle.meaning.specs.Schemes.{too-wide, narrow-does, narrow-step}
 use Rattle.meaning.proofs.TestLaws.{by-test, pick-true, pick-false}

@@ -20,7 +20,7 @@ use Rattle.reading.specs.Listed.{listed}
 use Rattle.steps.specs.Held.{plan-in, request-in}
 use Rattle.steps.specs.AtHand.{At-hand}
 use Rattle.steps.specs.Rests.{rest-at, start}
-use Rattle.steps.proofs.FirstLaws.{rest-first, first-is, at-is}
+use Rattle.steps.proofs.FirstLaws.{rest-first, first-flags, at-is}
 use Rattle.writing.specs.Progress.{so-far, add, line-count, byte-count, standing, progress-slots, Underway}
 use Rattle.writing.proofs.ProgressLaws.{add-within, add-above, stands-over, stands-so-far, over-stands}
 use Rattle.steps.proofs.StoreLaws.{store-before, stores-behind}
@@ -63,11 +63,11 @@ module _ (s t : List ℕ) (here : At-hand Flags s t) (items at : ℕ) (counted :
 
   pub whole-narrow : Verified (narrow-walk-of format (request-in Flags s t)) → Narrow-from s t at marks
   unfolding narrow-from walked-narrow request-in
-  whole-narrow good = rw (whole-left, first-is s t here marks is) good
+  whole-narrow good = rw (whole-left, first-flags s t here marks is) good
 
   whole-lines : lines-at s t at marks 0 ≡ derivation-of format (request-in Flags s t)
   unfolding lines-at derivation-of request-in
-  whole-lines = rw (whole-left, first-is s t here marks is)
+  whole-lines = rw (whole-left, first-flags s t here marks is)
 
   pub plan-lined : (room progress room′ : List ℕ) → Put (lines-at s t at marks (line-count (set (replicate progress-slots 0) 1 2))) (set (replicate progress-slots 0) 1 2) room progress room′
       → Lined (derivation-of format (request-in Flags s t)) room (record { lines = getD progress 0 0; bytes = getD progress 1 0 }) room′

@@ -12,7 +12,7 @@ use Rattle.meaning.specs.Limits
 use Rattle.meaning.specs.Limits.{format}
 use Rattle.meaning.specs.Requests.{Table, Sequence, done, item, act, branching, Branches, none, branch}
 use Rattle.meaning.specs.Lines.{sensing}
-use Rattle.meaning.specs.States.{State, state-after, unknown-sensed, Outcome, readings}
+use Rattle.meaning.specs.States.{State, known, state-after, unknown-sensed, Outcome, readings}
 use Rattle.meaning.specs.Derivations.{Conclusion, knows, Line, literals-of, goals-of}
 use Rattle.meaning.specs.Layouts.{item-written, items-written, items-in, plan-written, line-written, lines-written}
 use Rattle.meaning.specs.Schemes.{line-of, Writes, empty-lines, and-cites, Read-lines, one-read, both-read, then-read, read-lines, rule-for, sensing-lines, acting-lines, action-lines, branching-lines, lines, item-lines, branch-lines, lines-from}

@@ -2,6 +2,7 @@
 -- where the next branch begins, and the rest begins after the last branch.
 use Rattle.finding.specs.Branches.{Branches-here}
 use Rattle.finding.proofs.ByBranch.{branch-first, condition-first, branches-next}
+use Rattle.refusing.proofs.Laws18.{flags-condition}
 use Rattle.ruling.proofs.BranchRuleLaws.{Trying, second-there, second-fits, start-fits, branches-start, rest-there, trying-starts, trying-unknown, trying-other, branch-there, count-there, items-fit, taken-here, taken-none}
 use borrow.Author.Needs.{needs}
 use Rattle.ruling.proofs.branchings.some_branch.Statement.{statement}
@@ -58,7 +59,7 @@ next-item-requires c κs = search (needs, branch-first)
 
 -- src/branchings.rt:70:13
 each-holds-requires : tie.Need-each-holds-requires Inv-loop μ-loop
-each-holds-requires c κs = search (needs, condition-first)
+each-holds-requires c κs = search (needs, flags-condition)
 
 -- src/branchings.rt:71:13
 sequence-of-requires : tie.Need-sequence-of-requires Inv-loop μ-loop
