@@ -148,7 +148,7 @@ fn gives(
     l: Spot,
     rule: usize,
 ) -> bool
-    requires { ⌜ At-hand (now s) (now t) ⌝ }
+    requires { ⌜ At-hand Flags (now s) (now t) ⌝ }
     requires { ⌜ Numbered layout n m (now d) (now places) lines i ⌝ }
     requires { ⌜ l ≡ spot-in layout (now d) (now places) i ⌝ }
     requires { ⌜ rule ≡ for-lists (line-in layout n m (now d) i .rule) ⌝ }
@@ -201,7 +201,7 @@ fn line_refused(
     lines: usize,
     i: usize,
 ) -> u8
-    requires { ⌜ At-hand (now s) (now t) ⌝ }
+    requires { ⌜ At-hand Flags (now s) (now t) ⌝ }
     requires { ⌜ Numbered layout n m (now d) (now places) lines i ⌝ }
     ensures { λ r. ⌜ r ≡ refused-by layout (table-in Flags (now (s .entry))) (lines-in layout n m (now (d .entry))) i (line-in layout n m (now (d .entry)) i) ⌝ }
 {
@@ -241,7 +241,7 @@ pub fn check_lines(
     places: &Places,
     lines: usize,
 ) -> Passed
-    requires { ⌜ At-hand (now s) (now t) ⌝ }
+    requires { ⌜ At-hand Flags (now s) (now t) ⌝ }
     requires { ⌜ All-stand layout n m (now d) (now places) lines ⌝ }
     ensures { λ r. ⌜ r ≡ passed (check-lines format layout (table-in Flags (now (s .entry))) (lines-in layout n m (now (d .entry))) 0 (lines-in layout n m (now (d .entry)))) ⌝ }
 {

@@ -39,14 +39,14 @@ use Rattle.steps.proofs.ModeLaws.{held-known}
 use Rattle.glintstring.proofs.SettledAtHand.{settled-got, settled-held, settled-known, settled-unguarded, cases-walk, guarded-got, guarded-held, guarded-known, guards-held}
 
 -- In mode 0 the walk of what is held, a request x with guards gs, is the walk of these.
-known-walk : (s u : List ℕ) (x : Request) (gs : List Entry) → mode-in u ≡ 0 → request-in s u ≡ x → guards-in s u ≡ gs → walk-held s u ≡ walked-guarded x gs (first-state format (x .table))
+known-walk : (s u : List ℕ) (x : Request) (gs : List Entry) → mode-in u ≡ 0 → request-in Flags s u ≡ x → guards-in s u ≡ gs → walk-held Flags s u ≡ walked-guarded x gs (first-state format (x .table))
 unfolding request-in
 known-walk s u x gs known is are =
     held-known s u known
     ∙ ap (λ (y : Request). walked-guarded y (guards-in s u) (first-state format (y .table))) is
     ∙ ap (λ (hs : List Entry). walked-guarded x hs (first-state format (x .table))) are
 
-pub held-table : (s u : List ℕ) (x : Request) → request-in s u ≡ x → table-in Flags s ≡ x .table
+pub held-table : (s u : List ℕ) (x : Request) → request-in Flags s u ≡ x → table-in Flags s ≡ x .table
 unfolding request-in
 held-table s u x is = ap (λ (y : Request). y .table) is
 
@@ -101,7 +101,7 @@ module _ (s lent : List ℕ) (budget : ℕ) (a : Answer) (v : ℕ) where
     unfolding judge line judge-got
     judge-refused k p stops = call-refused (request-noted Flags) (λ (x : Request). x .table) (settled format s) s lent (judge-got (walk-of format) lent budget) a v sized t u r settles k p stops refl
 
-    pub judge-walked : (e : ℕ) → r ≡ To e → ((i : ℕ) → Fits w8 (getD s i 0)) → t ≡ blank → (left : List ℕ) → record { answer = a; state = left } ≡ within lent budget (walk-held s u)
+    pub judge-walked : (e : ℕ) → r ≡ To e → ((i : ℕ) → Fits w8 (getD s i 0)) → t ≡ blank → (left : List ℕ) → record { answer = a; state = left } ≡ within lent budget (walk-held Flags s u)
         → v ≡ line-told (table-in Flags s) s (record { answer = a; state = left }) → Gives (judge format s lent budget) (line format s lent budget) a left v
     unfolding judge line judge-got
     judge-walked e passes bytes empty left walks told =
@@ -128,7 +128,7 @@ module _ (s lent : List ℕ) (budget : ℕ) (a : Answer) (v : ℕ) where
         call-refused (request-noted Flags) (λ (x : Request). x .table) (settled format s) s lent (judge-got (ByCases.walk-of format) lent budget) a v sized t u r settles k p stops refl
 
     pub cases-walked : (e : ℕ) → r ≡ To e → ((i : ℕ) → Fits w8 (getD s i 0)) → t ≡ blank → (w : List ℕ) → w ≡ set u mode-slot 1 → (left : List ℕ)
-        → record { answer = a; state = left } ≡ within lent budget (walk-held s w) → v ≡ line-told (table-in Flags s) s (record { answer = a; state = left })
+        → record { answer = a; state = left } ≡ within lent budget (walk-held Flags s w) → v ≡ line-told (table-in Flags s) s (record { answer = a; state = left })
         → Gives (judge-by-cases format s lent budget) (line-by-cases format s lent budget) a left v
     unfolding judge-by-cases line-by-cases judge-got
     cases-walked e passes bytes empty w put left walks told =
@@ -150,7 +150,7 @@ module _ (s lent : List ℕ) (budget : ℕ) (a : Answer) (v : ℕ) where
     guarded-refused k p stops =
         call-refused guarded-noted (λ (g : Guarded-request). g .request .table) (settled-guarded format s) s lent (judge-got (Guards.walk-of format) lent budget) a v sized t u r settles k p stops refl
 
-    pub guarded-walked : (e : ℕ) → r ≡ To e → ((i : ℕ) → Fits w8 (getD s i 0)) → t ≡ blank → (left : List ℕ) → record { answer = a; state = left } ≡ within lent budget (walk-held s u)
+    pub guarded-walked : (e : ℕ) → r ≡ To e → ((i : ℕ) → Fits w8 (getD s i 0)) → t ≡ blank → (left : List ℕ) → record { answer = a; state = left } ≡ within lent budget (walk-held Flags s u)
         → v ≡ line-told (table-in Flags s) s (record { answer = a; state = left }) → Gives (judge-guarded format s lent budget) (line-guarded format s lent budget) a left v
     unfolding judge-guarded line-guarded judge-got Guards.walk-of
     guarded-walked e passes bytes empty left walks told =

@@ -61,7 +61,7 @@ module _ (state marks : List ℕ) (f : ℕ) (copying : Copying state marks f) wh
   copying-done all was = let sized = copying .sized in ext-getD 0 marks state (omega arith) (λ j h. copying .done j (omega arith))
 
 -- WHERE A WALK STOPS.
-module _ (s t : List ℕ) (here : At-hand s t) where
+module _ (s t : List ℕ) (here : At-hand Flags s t) where
   item-byte : (i : Item ℕ) → Stands-there s (table-in Flags s .actions) i → Item-byte s (item-place i)
   unfolding item-place
   item-byte (act p a) stands =
@@ -71,20 +71,20 @@ module _ (s t : List ℕ) (here : At-hand s t) where
       record { there = stands .there; small = λ _. omega (arith, is, small, few) }
   item-byte (branching p bs) stands = record { there = stands .there; small = λ other. absurd (other (stands .byte)) }
 
-  items-here : (i : Item ℕ) → Item-in (plan-in s t) i → Item-byte s (item-place i)
+  items-here : (i : Item ℕ) → Item-in (plan-in Flags s t) i → Item-byte s (item-place i)
   items-here i has =
-      item-byte i (plan-there format (table-in Flags s .fluents) (table-in Flags s .actions) s (getD t plan-slot 0) (record { value = plan-in s t; items = getD t items-slot 0 }) (goals-in t) (here .plan) i has)
+      item-byte i (plan-there format (table-in Flags s .fluents) (table-in Flags s .actions) s (getD t plan-slot 0) (record { value = plan-in Flags s t; items = getD t items-slot 0 }) (goals-in t) (here .plan) i has)
 
   -- With 2, at the first byte of an item.
   abbrev Stops-there : End State → Type 0
   Stops-there = End-so (λ _ _. Unit {0}) (λ n p _. n ≡ Limits.not-executable → Item-byte s p)
 
-  walk-stops : Stops-there (walk-held s t .end)
+  walk-stops : Stops-there (walk-held Flags s t .end)
   walk-stops =
       held-so (λ _ _. Unit {0}) (λ n p _. n ≡ Limits.not-executable → Item-byte s p) (λ _. Unit {0}) (Item-byte s)
       (record { misses = λ _ _ _. tt; stuck = λ _ _ p stands _. stands; wide = λ _ _ two. absurd (omega (arith, two)); many = λ _ _ two. absurd (omega (arith, two)); breaks = λ _ _ _ two. absurd (omega (arith, two)) }) s t
       (λ a u _. any-outcome (outcome-to (table-in Flags s) a u (state-after (table-in Flags s) a u))) (λ a u _. any-outcome (outcome-to (table-in Flags s) a u (after-cases (table-in Flags s) a u)))
-      (places-on (Item-byte s) (plan-in s t) items-here) tt
+      (places-on (Item-byte s) (plan-in Flags s t) items-here) tt
 
   abbrev Stands : Judgement → Type 0
   Stands j = j .answer .number ≡ Limits.not-executable → Item-byte s (j .answer .place)
@@ -99,9 +99,9 @@ module _ (s t : List ℕ) (here : At-hand s t) where
   unfolding within
   within-stands lent budget w stops = pick-has Stands _ _ _ (λ _ two. absurd (omega (arith, two))) (λ _. ended-stands lent (w .count) (w .end) stops)
 
-  pub stop-byte : (lent left : List ℕ) (budget : ℕ) (answer : Answer) → record { answer = answer; state = left } ≡ within lent budget (walk-held s t)
+  pub stop-byte : (lent left : List ℕ) (budget : ℕ) (answer : Answer) → record { answer = answer; state = left } ≡ within lent budget (walk-held Flags s t)
       → answer .number ≡ Limits.not-executable → Item-byte s (answer .place)
-  stop-byte lent left budget answer is = subst Stands (sym is) (within-stands lent budget (walk-held s t) walk-stops)
+  stop-byte lent left budget answer is = subst Stands (sym is) (within-stands lent budget (walk-held Flags s t) walk-stops)
 
 -- THE LINE of the item there.
 module _ (s : List ℕ) (place : ℕ) (state : List ℕ) where
@@ -131,7 +131,7 @@ module _ (s : List ℕ) (place : ℕ) (state : List ℕ) where
       line-never e = sym (line-is-of ∙ ap line-of e)
 
 -- What is named stands in the request.
-module _ (s t : List ℕ) (here : At-hand s t) (a : ℕ) (marks : State) (r : Runs) (is : r ≡ asked (table-in Flags s) a marks) where
+module _ (s t : List ℕ) (here : At-hand Flags s t) (a : ℕ) (marks : State) (r : Runs) (is : r ≡ asked (table-in Flags s) a marks) where
   named-small : (p : ℕ) → Line-of (table-in Flags s) a p → p < 65536
   named-small p of =
       let ends = run-stands s (table-in Flags s) (here .table-end) (sections s t here) (of .0) (of .1) .1 .ends in

@@ -41,14 +41,14 @@ module _ (s t u : List ℕ) (r : Passed) (settles : outcome r u ≡ noting (requ
     noted : u ≡ request-noted Flags (settled-got .0) blank
     noted = settled-got .2 ∙ ap (request-noted Flags (settled-got .0)) empty
 
-    pub settled-at-hand : At-hand s u
-    settled-at-hand = plain-at-hand s (λ i. bytes i .fits) u (settled-got .0) e (past .reads) noted (past .no-contradiction)
+    pub settled-at-hand : At-hand Flags s u
+    settled-at-hand = plain-at-hand Flags s (λ i. bytes i .fits) u (settled-got .0) e (past .reads) noted (past .no-contradiction)
 
-    pub settled-held : request-in s u ≡ settled-got .0
-    settled-held = plain-request s (λ i. bytes i .fits) u (settled-got .0) e (past .reads) noted
+    pub settled-held : request-in Flags s u ≡ settled-got .0
+    settled-held = plain-request Flags s (λ i. bytes i .fits) u (settled-got .0) e (past .reads) noted
 
-    pub settled-table : Table-here s u
-    settled-table = plain-table s (λ i. bytes i .fits) u (settled-got .0) e (past .reads) noted
+    pub settled-table : Table-here Flags s u
+    settled-table = plain-table Flags s (λ i. bytes i .fits) u (settled-got .0) e (past .reads) noted
 
     pub settled-known : mode-in u ≡ 0
     settled-known = table-mode s u settled-table
@@ -57,7 +57,7 @@ module _ (s t u : List ℕ) (r : Passed) (settles : outcome r u ≡ noting (requ
     settled-sized = settled-table .sized
 
     pub settled-unguarded : guards-in s u ≡ []
-    settled-unguarded = plain-guards s (λ i. bytes i .fits) u (settled-got .0) e (past .reads) noted
+    settled-unguarded = plain-guards Flags s (λ i. bytes i .fits) u (settled-got .0) e (past .reads) noted
 
 -- WITH GUARDS.
 module _ (s t u : List ℕ) (r : Passed) (settles : outcome r u ≡ noting guarded-noted (settled-guarded format s) t) (e : ℕ) (passes : r ≡ To e) where
@@ -68,12 +68,12 @@ module _ (s t u : List ℕ) (r : Passed) (settles : outcome r u ≡ noting guard
     noted-guarded : u ≡ guarded-noted (guarded-got .0) blank
     noted-guarded = guarded-got .2 ∙ ap (guarded-noted (guarded-got .0)) empty
 
-    pub guarded-hand : At-hand s u
+    pub guarded-hand : At-hand Flags s u
     guarded-hand =
         let read = guarded-past format s (guarded-got .0) e (guarded-got .1) in
         guarded-at-hand s (λ i. bytes i .fits) u (guarded-got .0) e (read .0) noted-guarded (read .1 .no-contradiction)
 
-    pub guarded-held : request-in s u ≡ guarded-got .0 .request
+    pub guarded-held : request-in Flags s u ≡ guarded-got .0 .request
     guarded-held = guarded-request s (λ i. bytes i .fits) u (guarded-got .0) e (guarded-past format s (guarded-got .0) e (guarded-got .1) .0) noted-guarded
 
     pub guarded-known : mode-in u ≡ 0
@@ -85,14 +85,14 @@ module _ (s t u : List ℕ) (r : Passed) (settles : outcome r u ≡ noting guard
 -- BY CASES it is the same request, with the mode put into the notes.
 module _ (s t u : List ℕ) (r : Passed) (settles : outcome r u ≡ noting (request-noted Flags) (settled format s) t) (e : ℕ) (passes : r ≡ To e) (bytes : (i : ℕ) → Fits w8 (getD s i 0)) (empty : t ≡ blank)
     (v : List ℕ) (put : v ≡ set u mode-slot 1) where
-  pub cases-hand : At-hand s v
-  cases-hand = rw put (hand-stays s u 1 (settled-at-hand s t u r settles e passes bytes empty))
+  pub cases-hand : At-hand Flags s v
+  cases-hand = rw put (hand-stays Flags s u 1 (settled-at-hand s t u r settles e passes bytes empty))
 
-  pub cases-walk : walk-held s v ≡ walked-by-cases (settled-got s t u r settles e passes .0) (first-state format (settled-got s t u r settles e passes .0 .table))
+  pub cases-walk : walk-held Flags s v ≡ walked-by-cases (settled-got s t u r settles e passes .0) (first-state format (settled-got s t u r settles e passes .0 .table))
   unfolding request-in
   cases-walk =
-      ap (walk-held s) put
-      ∙ held-cases s (set u mode-slot 1) (λ none. let one = new-mode s u 1 (settled-sized s t u r settles e passes bytes empty) in omega (arith, none, one))
-      (λ two. let one = new-mode s u 1 (settled-sized s t u r settles e passes bytes empty) in omega (arith, two, one))
-      (same-guarded s u 1 ∙ settled-unguarded s t u r settles e passes bytes empty)
-      ∙ ap (λ (x : Request). walked-by-cases x (first-state format (x .table))) (same-request s u 1 ∙ settled-held s t u r settles e passes bytes empty)
+      ap (walk-held Flags s) put
+      ∙ held-cases s (set u mode-slot 1) (λ none. let one = new-mode Flags s u 1 (settled-sized s t u r settles e passes bytes empty) in omega (arith, none, one))
+      (λ two. let one = new-mode Flags s u 1 (settled-sized s t u r settles e passes bytes empty) in omega (arith, two, one))
+      (same-guarded Flags s u 1 ∙ settled-unguarded s t u r settles e passes bytes empty)
+      ∙ ap (λ (x : Request). walked-by-cases x (first-state format (x .table))) (same-request Flags s u 1 ∙ settled-held s t u r settles e passes bytes empty)

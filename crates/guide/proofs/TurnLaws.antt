@@ -63,11 +63,11 @@ module _ (s t : List ℕ) (i : ℕ) (there : Item-there s t i) (p : ℕ) (placed
 
   module _ (state : State) (runs : Bool) (ran : runs ≡ can-be-run (table-in Flags s) a state) where
     abbrev meets-item : Guide → Turn
-    meets-item = meets s state (an-action (action-at s t i) (after-first (rest-at (plan-in s t) i)))
+    meets-item = meets s state (an-action (action-at s t i) (after-first (rest-at (plan-in Flags s t) i)))
 
-    meets-it : (g : Guide) → meets-item g ≡ met format (table-in Flags s) g state (an-action a (after-first (rest-at (plan-in s t) i)))
+    meets-it : (g : Guide) → meets-item g ≡ met format (table-in Flags s) g state (an-action a (after-first (rest-at (plan-in Flags s t) i)))
     unfolding meets
-    meets-it g = ap (λ (n : ℕ). met format (table-in Flags s) g state (an-action n (after-first (rest-at (plan-in s t) i)))) action-is
+    meets-it g = ap (λ (n : ℕ). met format (table-in Flags s) g state (an-action n (after-first (rest-at (plan-in Flags s t) i)))) action-is
 
     -- It cannot be run.
     pub item-refused : runs ≡ false → (r : Step) → r .told ≡ Refused (of-guide not-verified) → Turns s t r meets-item
@@ -77,14 +77,14 @@ module _ (s t : List ℕ) (i : ℕ) (there : Item-there s t i) (p : ℕ) (placed
         record { is = λ g. refused .is g ∙ sym (meets-it g ∙ pick-false _ _ _ (sym ran ∙ not)); goes = refused .goes }
 
     -- It is answered, and the guide goes on behind it with what is known when it is done.
-    module _ (can : runs ≡ true) (at : ℕ) (follows : Followed s t i at) where
+    module _ (can : runs ≡ true) (at : ℕ) (follows : Followed Flags s t i at) where
       does-it : (marks : State) → state-done (table-in Flags s) a state ≡ marks → Marked marks → Turns s t (record { told = Do a; action = a; at = at; marks = marks }) meets-item
       unfolding met turned guide-after on-the-way Goes-after
       does-it marks done marked = record {
         is = λ g.
-            ap (λ (fs : List ℕ). record { guide = going (table-in Flags s) fs (rest-at (plan-in s t) at) marks; told = Do a }) (asked-some s a action-low)
+            ap (λ (fs : List ℕ). record { guide = going (table-in Flags s) fs (rest-at (plan-in Flags s t) at) marks; told = Do a }) (asked-some s a action-low)
             ∙ ap (λ (b : Sequence ℕ). record { guide = going (table-in Flags s) (sensed format (table-in Flags s) a) b marks; told = Do a }) (follows .rest)
-            ∙ ap (λ (m : State). record { guide = going (table-in Flags s) (sensed format (table-in Flags s) a) (after-first (rest-at (plan-in s t) i)) m; told = Do a }) (sym done)
+            ∙ ap (λ (m : State). record { guide = going (table-in Flags s) (sensed format (table-in Flags s) a) (after-first (rest-at (plan-in Flags s t) i)) m; told = Do a }) (sym done)
             ∙ sym (meets-it g ∙ pick-true _ _ _ (sym ran ∙ can));
         goes = record { at = follows .at; marked = marked };
       }
@@ -114,7 +114,7 @@ module _ (s t : List ℕ) (state : State) (b : Sequence ℕ) (x : Code.Ahead) (c
   unfolding came meets met turned guide-after Goes-after
   comes-end is a at = record { is = λ g. by-came End is g; goes = tt }
 
-  pub comes-action : (i : ℕ) → x ≡ Action i → (r : Step) → Turns s t r (meets s state (an-action (action-at s t i) (after-first (rest-at (plan-in s t) i)))) → Turns s t r comes-to
+  pub comes-action : (i : ℕ) → x ≡ Action i → (r : Step) → Turns s t r (meets s state (an-action (action-at s t i) (after-first (rest-at (plan-in Flags s t) i)))) → Turns s t r comes-to
   unfolding came
   comes-action i is r turns = record { is = λ g. turns .is g ∙ by-came (Action i) is g; goes = turns .goes }
 
@@ -128,9 +128,9 @@ module _ (s t : List ℕ) (a at : ℕ) (marks : State) (bytes : List ℕ) where
   answers = takes s t a at marks bytes
 
   -- By the fluents that are asked for.
-  takes-them : (fs : List ℕ) → asked-by (table-in Flags s) a ≡ fs → (g : Guide) → take-over format (table-in Flags s) g fs (rest-at (plan-in s t) at) marks bytes ≡ answers g
+  takes-them : (fs : List ℕ) → asked-by (table-in Flags s) a ≡ fs → (g : Guide) → take-over format (table-in Flags s) g fs (rest-at (plan-in Flags s t) at) marks bytes ≡ answers g
   unfolding takes
-  takes-them fs is g = ap (λ (asked : List ℕ). take-over format (table-in Flags s) g asked (rest-at (plan-in s t) at) marks bytes) (sym is)
+  takes-them fs is g = ap (λ (asked : List ℕ). take-over format (table-in Flags s) g asked (rest-at (plan-in Flags s t) at) marks bytes) (sym is)
 
   -- 41, where there are more or fewer of them.
   other-number : (fs : List ℕ) → asked-by (table-in Flags s) a ≡ fs → (length bytes ≡ length fs → ⊥) → (r : Step) → r .told ≡ Refused (of-guide wrong-number) → Turns s t r answers
@@ -147,7 +147,7 @@ module _ (s t : List ℕ) (a at : ℕ) (marks : State) (bytes : List ℕ) where
 
     module _ (due : Fluents) (are : due ≡ fluents-of (sensed format (table-in Flags s) a)) (as-many : length bytes ≡ due .count) (wrong : Bool) (says : wrong ≡ against marks (literals-read (sensed format (table-in Flags s) a) bytes)) where
       takes-all : (g : Guide) → pick (against marks (literals-read (sensed format (table-in Flags s) a) bytes)) (λ _. stays g against-known)
-          (λ _. met format (table-in Flags s) g (told-all (literals-read (sensed format (table-in Flags s) a) bytes) marks) (ahead (told-all (literals-read (sensed format (table-in Flags s) a) bytes) marks) (rest-at (plan-in s t) at)))
+          (λ _. met format (table-in Flags s) g (told-all (literals-read (sensed format (table-in Flags s) a) bytes) marks) (ahead (told-all (literals-read (sensed format (table-in Flags s) a) bytes) marks) (rest-at (plan-in Flags s t) at)))
           ≡ answers g
       unfolding take-over
       takes-all g = sym (pick-true _ _ _ (eq-eqb (length bytes) (length (sensed format (table-in Flags s) a)) (told-count due (sensed format (table-in Flags s) a) are (length bytes) as-many))) ∙ takes-them (sensed format (table-in Flags s) a) (asked-some s a small) g
@@ -159,17 +159,17 @@ module _ (s t : List ℕ) (a at : ℕ) (marks : State) (bytes : List ℕ) where
           record { is = λ g. stay .is g ∙ sym (pick-true _ _ _ (sym says ∙ is)) ∙ takes-all g; goes = stay .goes }
 
       pub reads-on : wrong ≡ false → (state : State) → state ≡ told-all (literals-read (sensed format (table-in Flags s) a) bytes) marks → (r : Step)
-          → Turns s t r (meets s state (ahead state (rest-at (plan-in s t) at))) → Turns s t r answers
+          → Turns s t r (meets s state (ahead state (rest-at (plan-in Flags s t) at))) → Turns s t r answers
       unfolding meets
       reads-on not state taken r turns =
-          record { is = λ g. turns .is g ∙ ap (λ (m : State). met format (table-in Flags s) g m (ahead m (rest-at (plan-in s t) at))) taken ∙ sym (pick-false _ _ _ (sym says ∙ not)) ∙ takes-all g; goes = turns .goes }
+          record { is = λ g. turns .is g ∙ ap (λ (m : State). met format (table-in Flags s) g m (ahead m (rest-at (plan-in Flags s t) at))) taken ∙ sym (pick-false _ _ _ (sym says ∙ not)) ∙ takes-all g; goes = turns .goes }
 
   -- Where there was no action.
   module _ (large : format .actions ≤ a) where
     pub number-some : (length bytes ≡ 0 → ⊥) → (r : Step) → r .told ≡ Refused (of-guide wrong-number) → Turns s t r answers
     number-some some = other-number [] (asked-none s a large) some
 
-    pub reads-none : length bytes ≡ 0 → (r : Step) → Turns s t r (meets s marks (ahead marks (rest-at (plan-in s t) at))) → Turns s t r answers
+    pub reads-none : length bytes ≡ 0 → (r : Step) → Turns s t r (meets s marks (ahead marks (rest-at (plan-in Flags s t) at))) → Turns s t r answers
     unfolding meets take-over against some-of literals-read told-all
     reads-none none r turns =
         record { is = λ g. turns .is g ∙ sym (pick-true _ _ _ (eq-eqb (length bytes) 0 none) ∙ pick-false _ _ _ refl) ∙ takes-them [] (asked-none s a large) g; goes = turns .goes }

@@ -21,7 +21,7 @@ pub struct Fluents {
 
 // Those that the action senses.
 pub(crate) fn sensed_by(s: &[u8], t: &Notes, a: usize) -> Fluents
-    requires { ⌜ At-hand (now s) (now t) ⌝ }
+    requires { ⌜ At-hand Flags (now s) (now t) ⌝ }
     requires { ⌜ a < format .actions ⌝ }
     ensures { λ r. ⌜ r ≡ fluents-of (sensed format (table-in Flags (now (s .entry))) a) ⌝ }
 {
@@ -56,7 +56,7 @@ fn mark_read(byte: u8) -> u8
 
 // Some reading is against a known fluent.
 pub(crate) fn is_against(s: &[u8], t: &Notes, a: usize, marks: &Marks, readings: &[u8]) -> bool
-    requires { ⌜ At-hand (now s) (now t) ⌝ }
+    requires { ⌜ At-hand Flags (now s) (now t) ⌝ }
     requires { ⌜ a < format .actions ⌝ }
     requires { ⌜ Marked (now marks) ⌝ }
     requires { ⌜ length (now readings) ≡ length (sensed format (table-in Flags (now s)) a) ⌝ }
@@ -82,7 +82,7 @@ pub(crate) fn is_against(s: &[u8], t: &Notes, a: usize, marks: &Marks, readings:
 
 // The state with every reading taken over.
 pub(crate) fn taken_over(s: &[u8], t: &Notes, a: usize, marks: &Marks, readings: &[u8]) -> Marks
-    requires { ⌜ At-hand (now s) (now t) ⌝ }
+    requires { ⌜ At-hand Flags (now s) (now t) ⌝ }
     requires { ⌜ a < format .actions ⌝ }
     requires { ⌜ Marked (now marks) ⌝ }
     requires { ⌜ length (now readings) ≡ length (sensed format (table-in Flags (now s)) a) ⌝ }

@@ -175,7 +175,7 @@ module _ (t before : List ℕ) (lines q : ℕ) (all room : List ℕ) (count p k 
         }
 
 -- THE TABLE in the notes: how long its index is, and that the notes lead to each action's lines.
-module _ (s t : List ℕ) (here : Table-here s t) where
+module _ (s t : List ℕ) (here : Table-here Flags s t) where
   abbrev x : Table
   x = table-in Flags s
 
@@ -246,14 +246,14 @@ module _ (s t : List ℕ) (here : Table-here s t) where
 
 -- THE INDEX, action by action. The parts of the first a actions are put, and q is behind them.
 pub record Building (s t before room : List ℕ) (actions q a : ℕ) : Type 0 where
-  pub here : Table-here s t
+  pub here : Table-here Flags s t
   pub inside : length (index-of (table-in Flags s)) ≤ length before
   pub all : actions ≡ table-in Flags s .actions
   pub few : a ≤ actions
   pub placed : q ≡ length (index-from (table-in Flags s) 0 a)
   pub same : room ≡ sets before 0 (index-from (table-in Flags s) 0 a)
 
-pub building-starts : (s t room : List ℕ) (actions : ℕ) → Table-here s t → length (index-of (table-in Flags s)) ≤ length room → actions ≡ getD s 1 0 → Building s t room room actions 0 0
+pub building-starts : (s t room : List ℕ) (actions : ℕ) → Table-here Flags s t → length (index-of (table-in Flags s)) ≤ length room → actions ≡ getD s 1 0 → Building s t room room actions 0 0
 unfolding index-from
 building-starts s t room actions here inside is = record {
   here = here;

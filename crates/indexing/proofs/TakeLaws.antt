@@ -78,7 +78,7 @@ pub record Left (i : List ℕ) (x : Table) (a left q effects runs : ℕ) : Type 
   pub runs-few : runs + length (each-action (executability-of x) a left) < line-numbers
 
 -- All of them are left at the start.
-pub all-left : (s t : List ℕ) → Table-here s t → Left (index-of (table-in Flags s)) (table-in Flags s) 0 (table-in Flags s .actions) 0 0 0
+pub all-left : (s t : List ℕ) → Table-here Flags s t → Left (index-of (table-in Flags s)) (table-in Flags s) 0 (table-in Flags s .actions) 0 0 0
 unfolding index-of effects-of executability-of
 all-left s t here =
     let x = table-in Flags s in
@@ -152,7 +152,7 @@ pub record Indexing (i : List ℕ) (x : Table) (whole t : List ℕ) (actions q e
   pub same : whole ≡ index-taken i a (actions - a) q effects runs t
   pub left : Left i x a (actions - a) q effects runs
 
-pub indexing-starts : (s t : List ℕ) → Table-here s t → (i : List ℕ) → i ≡ index-of (table-in Flags s) → (actions : ℕ) → actions ≡ getD s 1 0
+pub indexing-starts : (s t : List ℕ) → Table-here Flags s t → (i : List ℕ) → i ≡ index-of (table-in Flags s) → (actions : ℕ) → actions ≡ getD s 1 0
     → Indexing i (table-in Flags s) (index-taken i 0 (table-in Flags s .actions) 0 0 0 t) t actions 0 0 0 0
 indexing-starts s t here i is actions count =
     let all : table-in Flags s .actions ≡ actions - 0 = omega (arith, front-here s t here .actions-are, count) in

@@ -253,7 +253,7 @@ module _ (i : List ℕ) where
         ]
 
 -- THE NOTES with the index of the table that they hold.
-module _ (s t : List ℕ) (table : Table-here s t) (i : List ℕ) (is : i ≡ index-of (table-in Flags s)) where
+module _ (s t : List ℕ) (table : Table-here Flags s t) (i : List ℕ) (is : i ≡ index-of (table-in Flags s)) where
   abbrev u : List ℕ
   u = index-taken i 0 (table-in Flags s .actions) 0 0 0 t
 
@@ -277,11 +277,11 @@ module _ (s t : List ℕ) (table : Table-here s t) (i : List ℕ) (is : i ≡ in
   same : (j : ℕ) → Other j → getD u j 0 ≡ getD t j 0
   same j other = taken-other j (other .lines)
 
-  pub taken-request : request-in s (index-taken i 0 (table-in Flags s .actions) 0 0 0 t) ≡ request-in s t
-  taken-request = request-same s t u same
+  pub taken-request : request-in Flags s (index-taken i 0 (table-in Flags s .actions) 0 0 0 t) ≡ request-in Flags s t
+  taken-request = request-same Flags s t u same
 
   pub taken-guards : guards-in s (index-taken i 0 (table-in Flags s .actions) 0 0 0 t) ≡ guards-in s t
-  taken-guards = guards-same s t u same
+  taken-guards = guards-same Flags s t u same
 
   -- An action that is none of the table's has no lines, before and afterwards.
   lines : Lines-there format s (table-in Flags s)
@@ -312,10 +312,10 @@ module _ (s t : List ℕ) (table : Table-here s t) (i : List ℕ) (is : i ≡ in
         let few = left .few in
         first-kept run-lines (clear-outside effect-lines 0 (table-in Flags s .actions) 0 _ few (λ n less e. omega arith)) (clear-first run-lines 0 (table-in Flags s .actions) 0 b (λ _. omega arith)) _ no-runs
 
-  pub taken-hand : At-hand s t → At-hand s (index-taken i 0 (table-in Flags s .actions) 0 0 0 t)
+  pub taken-hand : At-hand Flags s t → At-hand Flags s (index-taken i 0 (table-in Flags s .actions) 0 0 0 t)
   unfolding effect-places run-places LinesFound.effect-places LinesFound.run-places
   taken-hand here =
-      hand-same s t u same here
+      hand-same Flags s t u same here
       (λ b small.
       by-test (ltb b (table-in Flags s .actions)) (λ e. ordered b (ltb-true b (table-in Flags s .actions) e) .effects) (λ e. kept-effects b (ltb-false b (table-in Flags s .actions) e) small (here .effects b small)))
       (λ b small.

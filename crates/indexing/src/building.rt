@@ -54,7 +54,7 @@ fn put_lines(t: &Notes, lines: usize, a: usize, room: &mut [u8], q: usize) -> us
 
 // How many bytes the index has (FORMAT 23.5).
 pub fn index_length(s: &[u8], t: &Notes) -> usize
-    requires { ⌜ Table-here (now s) (now t) ⌝ }
+    requires { ⌜ Table-here Flags (now s) (now t) ⌝ }
     ensures { λ r. ⌜ r ≡ length (index-of (table-in Flags (now (s .entry)))) ⌝ }
 {
     let actions = wide(s[1]);
@@ -65,7 +65,7 @@ pub fn index_length(s: &[u8], t: &Notes) -> usize
 
 // The index goes to the start of the room.
 pub fn put_index(s: &[u8], t: &Notes, room: &mut [u8])
-    requires { ⌜ Table-here (now s) (now t) ⌝ }
+    requires { ⌜ Table-here Flags (now s) (now t) ⌝ }
     requires { ⌜ length (index-of (table-in Flags (now s))) ≤ length (now room) ⌝ }
     ensures { λ _. ⌜ now (room .exit) ≡ sets (now (room .entry)) 0 (index-of (table-in Flags (now (s .entry)))) ⌝ }
 {

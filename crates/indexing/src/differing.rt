@@ -36,7 +36,7 @@ fn difference(one: &[u8], n: usize, other: &[u8]) -> Found
 
 // That of the index which building gives and this one.
 pub fn differs(s: &[u8], t: &Notes, index: &[u8]) -> Found
-    requires { ⌜ Table-here (now s) (now t) ⌝ }
+    requires { ⌜ Table-here Flags (now s) (now t) ⌝ }
     ensures { λ r. ⌜ r ≡ found (first-difference (index-of (table-in Flags (now (s .entry)))) (now (index .entry))) ⌝ }
 {
     let mut room = [0u8; limits::INDEX];

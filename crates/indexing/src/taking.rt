@@ -54,7 +54,7 @@ fn take_lines(index: &[u8], q: usize, t: &mut Notes, lines: usize, a: usize, k: 
 
 // The index becomes what the notes have of the lines of sections 3 and 4.
 pub fn take_index(s: &[u8], index: &[u8], t: &mut Notes)
-    requires { ⌜ Table-here (now s) (now t) ⌝ }
+    requires { ⌜ Table-here Flags (now s) (now t) ⌝ }
     requires { ⌜ now index ≡ index-of (table-in Flags (now s)) ⌝ }
     ensures { λ _. ⌜ now (t .exit) ≡ index-taken (now (index .entry)) 0 (table-in Flags (now (s .entry)) .actions) 0 0 0 (now (t .entry)) ⌝ }
 {

@@ -134,7 +134,7 @@ module _ (request : List ℕ) (x : Request) (e : ℕ) (past : settled format req
       (walked-kept Marked x (cases-step (x .table)) (cases-marked (x .table)) from (first-marked (x .table))) (walked-cases-blank x in-range)
 
   begins : Front Flags request 0 (x .table)
-  begins = request-starts request x e (settled-is format request x e past .reads) .front
+  begins = request-starts Flags request x e (settled-is format request x e past .reads) .front
 
 pub judge-written : (request lent : List ℕ) (budget : ℕ) → Writes (judge format request lent budget .answer .number) → Written request (judge format request lent budget .state)
 judge-written request lent budget writes =

@@ -53,7 +53,7 @@ yes-right : (a b : Bool) → b ≡ true → both a b ≡ a
 yes-right a b e = same-test (both a b) a (both-left a b) (λ t. both-true a b t e)
 
 -- A LINE at a spot, whose plan's count stands at q.
-module _ (d : List ℕ) (w : Spot) (q : ℕ) (after : q ≡ sequence-place d (w .line)) where
+module _ (d : List ℕ) (w : Spot) (q : ℕ) (after : q ≡ sequence-place Flags d (w .line)) where
   pub plan-of : (l : Line) → Stands d w l → Plan-stands d q (w .end) (l .c)
   unfolding sequence-place after-list
   plan-of l sl = subst (λ (j : ℕ). Plan-stands d j (w .end) (l .c)) (sym after) (sl .plan)
@@ -158,7 +158,7 @@ pub empty-whether : (d : List ℕ) (w : Spot) → w .fluent ≡ true → Ruled d
 unfolding rule-1
 empty-whether d w whether = record { holds = λ l sl. no-right (same-plan (l .c) done) (same-conclusion (l .Y) (knows (l .X))) (Y-other d w whether l sl (l .X)) }
 
-module _ (d : List ℕ) (w : Spot) (q : ℕ) (after : q ≡ sequence-place d (w .line)) (none : Bool) (tested : none ≡ no-item d q) where
+module _ (d : List ℕ) (w : Spot) (q : ℕ) (after : q ≡ sequence-place Flags d (w .line)) (none : Bool) (tested : none ≡ no-item d q) where
   pub empty-same : (r : Bool) → w .fluent ≡ false → none ≡ true → r ≡ same-list (listed d (w .conclusion)) (listed d (w .line)) → Ruled d w rule-1 r
   unfolding rule-1
   empty-same r list t is =
@@ -187,7 +187,7 @@ module _ (d : List ℕ) (v w : Spot) (starts : Bool) (first : starts ≡ same-li
   pub X-same : (c l : Line) → Stands d v c → Stands d w l → starts ≡ same-list (c .X) (l .X)
   X-same c l sc sl = first ∙ ap₂ {C = Bool} same-list (sc .X .same) (sl .X .same)
 
-module _ (d : List ℕ) (v w : Spot) (r q : ℕ) (given : r ≡ sequence-place d (v .line)) (after : q ≡ sequence-place d (w .line)) (same : Bool) (compared : Same-plans d r (v .end) d q (w .end) same) where
+module _ (d : List ℕ) (v w : Spot) (r q : ℕ) (given : r ≡ sequence-place Flags d (v .line)) (after : q ≡ sequence-place Flags d (w .line)) (same : Bool) (compared : Same-plans d r (v .end) d q (w .end) same) where
   plans-are : (c l : Line) → Stands d v c → Stands d w l → same ≡ same-plan (c .c) (l .c)
   plans-are c l sc sl = compared .holds (c .c) (l .c) (plan-of d v r given c sc) (plan-of d w q after l sl)
 
@@ -217,7 +217,7 @@ module _ (d : List ℕ) (v w : Spot) where
     unfolding rule-6
     not-within f = record { holds = λ c l sc sl. no-left _ _ (sym (starts-is c l sc sl) ∙ f) }
 
-    module _ (t : starts ≡ true) (r q : ℕ) (given : r ≡ sequence-place d (v .line)) (after : q ≡ sequence-place d (w .line)) (same : Bool) (second : Same-plans d r (v .end) d q (w .end) same) where
+    module _ (t : starts ≡ true) (r q : ℕ) (given : r ≡ sequence-place Flags d (v .line)) (after : q ≡ sequence-place Flags d (w .line)) (same : Bool) (second : Same-plans d r (v .end) d q (w .end) same) where
       same-is : (c l : Line) → Stands d v c → Stands d w l → same ≡ same-plan (c .c) (l .c)
       same-is = plans-are d v w r q given after same second
 
@@ -308,7 +308,7 @@ module _ (d : List ℕ) (v w : Spot) where
             ∙ eq-eqb _ _ (ap (λ (k : ℕ). k / 2) (sym byte) ∙ same-fluent)
 
         pub settled : (starts : Bool) → starts ≡ same-list (listed d (v .line)) (listed d (w .line)) → starts ≡ true
-            → (r q : ℕ) → r ≡ sequence-place d (v .line) → q ≡ sequence-place d (w .line) → (same : Bool) → Same-plans d r (v .end) d q (w .end) same → Ruled-by d v w rule-8 same
+            → (r q : ℕ) → r ≡ sequence-place Flags d (v .line) → q ≡ sequence-place Flags d (w .line) → (same : Bool) → Same-plans d r (v .end) d q (w .end) same → Ruled-by d v w rule-8 same
         unfolding rule-8
         settled starts first t r q given after same second =
             record {
@@ -365,7 +365,7 @@ module _ (d : List ℕ) (u v w : Spot) where
                   (sym (no-left (same-conclusion (c .Y) (l .Y)) (same-plan (join (b .c) (c .c)) (l .c)) (sym (ends-is b c l sb sc sl) ∙ f)));
             }
 
-        pub composed : ends ≡ true → (q q₁ q₂ count more : ℕ) → q ≡ sequence-place d (w .line) → q₁ ≡ sequence-place d (u .line) → q₂ ≡ sequence-place d (v .line)
+        pub composed : ends ≡ true → (q q₁ q₂ count more : ℕ) → q ≡ sequence-place Flags d (w .line) → q₁ ≡ sequence-place Flags d (u .line) → q₂ ≡ sequence-place Flags d (v .line)
             → count ≡ getD d q₁ 0 * 256 + getD d (q₁ + 1) 0 → more ≡ getD d q₂ 0 * 256 + getD d (q₂ + 1) 0
             → (r : Bool) → Joined-plans d q (w .end) (q₁ + 2) (u .end) count (q₂ + 2) (v .end) more r → Ruled-by-two d u v w rule-5 r
         unfolding rule-5
@@ -467,7 +467,7 @@ module _ (d : List ℕ) (w : Spot) (s : List ℕ) where
             (l .c);
       }
 
-module _ (d : List ℕ) (w : Spot) (q : ℕ) (after : q ≡ sequence-place d (w .line)) (count : ℕ) (read : count ≡ getD d q 0 * 256 + getD d (q + 1) 0) where
+module _ (d : List ℕ) (w : Spot) (q : ℕ) (after : q ≡ sequence-place Flags d (w .line)) (count : ℕ) (read : count ≡ getD d q 0 * 256 + getD d (q + 1) 0) where
   pub own-count : (l : Line) → Stands d w l → count ≡ own-items (l .c)
   own-count l sl = read ∙ plan-of d w q after l sl .count
 

@@ -29,6 +29,7 @@ reads-at rest Y cited other s k = both (ltb k (length cited)) (says (getD cited 
 
 -- Each state is said by the next line, the first by line k.
 unfoldable pub used : Sequence ℕ → Conclusion → List Line → (other : Line) → List State → (k : ℕ) → Used
+use Rattle.meaning.specs.declared.Form.the-variants.{Flags}
 used rest Y cited other [] k = To k
 used rest Y cited other (s ∷ ss) k = pick (reads-at rest Y cited other s k) (λ _. used rest Y cited other ss (k + 1)) (λ _. Fails)
 
@@ -47,10 +48,10 @@ pub record Stands-some (d : List ℕ) (w : Spot) : Type 0 where
 
 -- What follows the first item of the line at the spot: where it starts, and how many items it has.
 abbrev pub rest-first : List ℕ → Spot → ℕ
-rest-first d w = sequence-place d (w .line) + 3
+rest-first d w = sequence-place Flags d (w .line) + 3
 
 abbrev pub rest-items : List ℕ → Spot → ℕ
-rest-items d w = getD d (sequence-place d (w .line)) 0 * 256 + getD d (sequence-place d (w .line) + 1) 0 - 1
+rest-items d w = getD d (sequence-place Flags d (w .line)) 0 * 256 + getD d (sequence-place Flags d (w .line) + 1) 0 - 1
 
 -- It stands there, and the line's conclusion.
 pub record Follows (d : List ℕ) (w : Spot) (rest : Sequence ℕ) (Y : Conclusion) : Type 0 where

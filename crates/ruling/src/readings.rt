@@ -22,6 +22,7 @@ use comparing::spots::same_conclusions;
 use comparing::spots::spot_of;
 use deriving::derivations::Places;
 use finding::branches::sequence_of;
+use meaning::Form;
 use meaning::Layout;
 use reading::marks::Marks;
 use reading::marks::state_of;
@@ -59,10 +60,10 @@ fn says_reading(d: &[u8], marks: &Marks, own: Spot, cited: Spot) -> bool
     let starts = lists_known(marks, d, pc);
     if starts {
         let p = own.line;
-        let mine = sequence_of(d, p);
+        let mine = sequence_of(Form::Flags, d, p);
         let all = count_of(d, mine);
         let items = one_less(all);
-        let plan = sequence_of(d, pc);
+        let plan = sequence_of(Form::Flags, d, pc);
         let count = count_of(d, plan);
         if count != items {
             return false;
@@ -130,7 +131,7 @@ fn each_reading(
     i: usize,
     k: usize,
 ) -> Used
-    requires { ⌜ At-hand (now s) (now t) ⌝ }
+    requires { ⌜ At-hand Flags (now s) (now t) ⌝ }
     requires { ⌜ a < format .actions ⌝ }
     requires { ⌜ Marked marks ⌝ }
     requires { ⌜ i < lines ⌝ }
@@ -141,7 +142,7 @@ fn each_reading(
         let above = f + 1;
         let mut state = marks;
         state[f] = limits::TRUE_MARK;
-        let g = next_unknown(s, t, a, above, &state);
+        let g = next_unknown(Form::Flags, s, t, a, above, &state);
         match each_reading(layout, s, t, d, places, a, g, state, lines, i, k) {
             Used::To(j) => {
                 state[f] = limits::FALSE_MARK;
@@ -165,7 +166,7 @@ pub fn rule_3(
     i: usize,
     l: Spot,
 ) -> bool
-    requires { ⌜ At-hand (now s) (now t) ⌝ }
+    requires { ⌜ At-hand Flags (now s) (now t) ⌝ }
     requires { ⌜ Some-line (now d) l ⌝ }
     requires { ⌜ Some-lines layout (now d) (now places) lines ⌝ }
     requires { ⌜ i < lines ⌝ }
@@ -174,7 +175,7 @@ pub fn rule_3(
     ensures { λ r. ⌜ Ruled-by-all layout (now (d .entry)) (now (places .entry)) l (rule-3 format (table-in Flags (now (s .entry)))) r ⌝ }
 {
     let p = l.line;
-    let plan = sequence_of(d, p);
+    let plan = sequence_of(Form::Flags, d, p);
     let count = count_of(d, plan);
     if count == 0 {
         return false;
@@ -184,12 +185,12 @@ pub fn rule_3(
         return false;
     }
     let a = wide(d[first]);
-    let sensing = is_sensing(s, t, a);
+    let sensing = is_sensing(Form::Flags, s, t, a);
     if sensing {
         let marks = state_of(d, p);
         let runs = can_be_run(s, t, a, &marks);
         if runs {
-            let f = first_unknown(s, t, a, &marks);
+            let f = first_unknown(Form::Flags, s, t, a, &marks);
             let counted = l.cites;
             let cited = wide(d[counted]);
             match each_reading(layout, s, t, d, places, a, f, marks, lines, i, 0) {

@@ -77,11 +77,11 @@ module _ (t : Table) (p a : ℕ) (k : State → Walked State) (s : State) where
 -- ITEM i is this action.
 module _ (s t : List ℕ) (i a : ℕ) (acts : Acts s t i a) (marks : State) (good : Narrow-from s t i marks) where
   abbrev walks-on : State → Walked State
-  walks-on = walk (narrow-step (table-in Flags s)) (acts .after) (judged (request-in s t))
+  walks-on = walk (narrow-step (table-in Flags s)) (acts .after) (judged (request-in Flags s t))
 
   run-good : Verified (run-action (narrow-step (table-in Flags s)) (acts .place) a walks-on marks)
   unfolding narrow-from walk
-  run-good = subst (λ (c : Sequence ℕ). Verified (walk (narrow-step (table-in Flags s)) c (judged (request-in s t)) marks)) (acts .is) good
+  run-good = subst (λ (c : Sequence ℕ). Verified (walk (narrow-step (table-in Flags s)) c (judged (request-in Flags s t)) marks)) (acts .is) good
 
   pub action-runs : (n : ℕ) → n ≡ a → can-be-run (table-in Flags s) n marks ≡ true
   action-runs n is = ap (λ (b : ℕ). can-be-run (table-in Flags s) b marks) is ∙ narrow-runs (table-in Flags s) (acts .place) a walks-on marks run-good
@@ -90,7 +90,7 @@ module _ (s t : List ℕ) (i a : ℕ) (acts : Acts s t i a) (marks : State) (goo
   action-few = narrow-few (table-in Flags s) (acts .place) a walks-on marks run-good
 
 -- WHAT FOLLOWS IT.
-pub left-after : (s t : List ℕ) (i a : ℕ) (acts : Acts s t i a) (next : ℕ) → Followed s t i next → rest-at (plan-in s t) next ≡ acts .after
+pub left-after : (s t : List ℕ) (i a : ℕ) (acts : Acts s t i a) (next : ℕ) → Followed Flags s t i next → rest-at (plan-in Flags s t) next ≡ acts .after
 unfolding after-first
 left-after s t i a acts next follows = follows .rest ∙ ap after-first (acts .is)
 
@@ -117,10 +117,10 @@ module _ (s : List ℕ) (a : ℕ) (marks : State) (f : ℕ) where
         (λ u. let near = ltb-true f (format .fluents) u in fluents-some near ∙ sym (sensed-first (table-in Flags s) a marks marked f first near))
         (λ u. let far = ltb-false f (format .fluents) u in fluents-none far ∙ sym (sensed-no-first (table-in Flags s) a marks marked f first far))
 
-module _ (s t : List ℕ) (i a : ℕ) (acts : Acts s t i a) (marks : State) (good : Narrow-from s t i marks) (next : ℕ) (follows : Followed s t i next) where
+module _ (s t : List ℕ) (i a : ℕ) (acts : Acts s t i a) (marks : State) (good : Narrow-from s t i marks) (next : ℕ) (follows : Followed Flags s t i next) where
   from-next : walks-on s t i a acts marks good ≡ narrow-from s t next
   unfolding narrow-from
-  from-next = ap (λ (c : Sequence ℕ). walk (narrow-step (table-in Flags s)) c (judged (request-in s t))) (sym (left-after s t i a acts next follows))
+  from-next = ap (λ (c : Sequence ℕ). walk (narrow-step (table-in Flags s)) c (judged (request-in Flags s t))) (sym (left-after s t i a acts next follows))
 
   pub action-moves : sensing (table-in Flags s) a ≡ false → (n : ℕ) → n ≡ a → (after : State) → after ≡ state-after (table-in Flags s) n marks → Narrow-from s t next after
   action-moves unsensed n same after is =
@@ -184,24 +184,24 @@ module _ (s : List ℕ) (a f : ℕ) (marks : State) (small : f < format .fluents
 
 -- A BRANCHING.
 module _ (t : Table) (s : State) (p : ℕ) (k : State → Walked State) where
-  takes-walks : (bs : Branches ℕ) (b : Sequence ℕ) → Takes s bs b → walk-branch (narrow-step t) bs p k s ≡ walk (narrow-step t) b k s
+  takes-walks : (bs : Branches ℕ) (b : Sequence ℕ) → Takes known s bs b → walk-branch (narrow-step t) bs p k s ≡ walk (narrow-step t) b k s
   unfolding Takes walk-branch narrow-step
   takes-walks none b takes = absurd takes
   takes-walks (branch c d bs) b takes =
       ⊎-elim (λ here. pick-true _ _ _ (here .0) ∙ ap (λ (e : Sequence ℕ). walk (narrow-step t) e k s) (sym (here .1)))
       (λ later. pick-false _ _ _ (later .0) ∙ takes-walks bs b (later .1)) takes
 
-  none-stops : (bs : Branches ℕ) → Takes-none s bs → walk-branch (narrow-step t) bs p k s ≡ stuck-at p s
+  none-stops : (bs : Branches ℕ) → Takes-none known s bs → walk-branch (narrow-step t) bs p k s ≡ stuck-at p s
   unfolding Takes-none walk-branch narrow-step
   none-stops none takes = refl
   none-stops (branch c d bs) takes = pick-false _ _ _ (takes .0) ∙ none-stops bs (takes .1)
 
 module _ (s t : List ℕ) (i : ℕ) (marks : State) (good : Narrow-from s t i marks) where
-  taken-good : (at : ℕ) → Taken marks (rest-at (plan-in s t) i) (rest-at (plan-in s t) at) → Narrow-from s t at marks
+  taken-good : (at : ℕ) → Taken known marks (rest-at (plan-in Flags s t) i) (rest-at (plan-in Flags s t) at) → Narrow-from s t at marks
   unfolding narrow-from walk
   taken-good at taken =
       let step = narrow-step (table-in Flags s) in
-      let end = judged (request-in s t) in
+      let end = judged (request-in Flags s t) in
       subst Verified
       (ap (λ (c : Sequence ℕ). walk step c end marks) (taken .is)
       ∙ takes-walks (table-in Flags s) marks (taken .place) (walk step (taken .after) end) (taken .branches) (taken .chosen) (taken .takes)
@@ -209,18 +209,18 @@ module _ (s t : List ℕ) (i : ℕ) (marks : State) (good : Narrow-from s t i ma
       ∙ ap (λ (c : Sequence ℕ). walk step c end marks) (sym (taken .rest)))
       good
 
-  some-taken : Untaken marks (rest-at (plan-in s t) i) → ⊥
+  some-taken : Untaken known marks (rest-at (plan-in Flags s t) i) → ⊥
   unfolding narrow-from walk stopped-at
   some-taken untaken =
       let step = narrow-step (table-in Flags s) in
-      let end = judged (request-in s t) in
+      let end = judged (request-in Flags s t) in
       let stops : stopped Limits.not-executable (untaken .place) (in-state marks) ≡ fine =
       subst Verified
       (ap (λ (c : Sequence ℕ). walk step c end marks) (untaken .is) ∙ none-stops (table-in Flags s) marks (untaken .place) (walk step (untaken .after) end) (untaken .branches) (untaken .none))
       good in
       let z : _≡_ {A = ℕ} 0 1 = cc in omega arith
 
-  module _ (r : Found) (chosen : Chosen s t i marks r) where
+  module _ (r : Found) (chosen : Chosen Flags s t i marks r) where
     pub chosen-good : (at : ℕ) → r ≡ At at → Narrow-from s t at marks
     chosen-good at is = taken-good at (chosen .takes at is)
 

@@ -17,13 +17,13 @@ use Rattle.meaning.specs.declared.Form.the-variants.{Flags}
 
 -- FROM A POSITION of the plan on.
 unfoldable pub narrow-from : (s t : List ℕ) → (at : ℕ) → State → Walked State
-narrow-from s t at = walk (narrow-step (table-in Flags s)) (rest-at (plan-in s t) at) (judged (request-in s t))
+narrow-from s t at = walk (narrow-step (table-in Flags s)) (rest-at (plan-in Flags s t) at) (judged (request-in Flags s t))
 
 abbrev pub Narrow-from : (s t : List ℕ) → (at : ℕ) → State → Type 0
 Narrow-from s t at marks = Verified (narrow-from s t at marks)
 
 unfoldable pub lines-at : (s t : List ℕ) → (at : ℕ) → Writes
-lines-at s t at = lines-from (request-in s t) (rest-at (plan-in s t) at)
+lines-at s t at = lines-from (request-in Flags s t) (rest-at (plan-in Flags s t) at)
 
 -- THE READINGS of fluent f and of the unknown ones above it that the action senses, or of none where f is the limit of fluents; each is followed by what is left
 -- from a position on.
@@ -41,8 +41,8 @@ readings-at s t a at f marks = read-lines (readings (fluents-from s a f marks) m
 
 -- ITEM i is this action.
 pub record Acts (s t : List ℕ) (i action : ℕ) : Type 0 where
-  pub there : i < items-of (plan-in s t)
+  pub there : i < items-of (plan-in Flags s t)
   pub small : action < format .actions
   pub place : ℕ
   pub after : Sequence ℕ
-  pub is : rest-at (plan-in s t) i ≡ item (act place action) after
+  pub is : rest-at (plan-in Flags s t) i ≡ item (act place action) after

@@ -55,9 +55,9 @@ positive : (k : ℕ) → (k ≡ 0 → ⊥) → 0 < k
 positive k some = by-test (eqb k 0) (λ t. absurd (some (eqb-true _ _ t))) (λ f. let other = eqb-false k 0 f in omega (arith, other))
 
 -- All the action's lines.
-module _ (s t : List ℕ) (a : ℕ) (k : ℕ) (here : At-hand s t) (small : a < format .actions) (at : k ≡ first-line t run-lines a) where
+module _ (s t : List ℕ) (a : ℕ) (k : ℕ) (here : At-hand Flags s t) (small : a < format .actions) (at : k ≡ first-line t run-lines a) where
   abbrev runs-all : Runs-ahead s t k
-  runs-all = ahead-starts (λ (p : ℕ). List-here all-literals s (p + 1)) t run-lines a (run-places s a) (here .runs a small) (runs-at-hand s t here a .lines) k at
+  runs-all = ahead-starts (λ (p : ℕ). List-here all-literals s (p + 1)) t run-lines a (run-places Flags s a) (here .runs a small) (runs-at-hand s t here a .lines) k at
 
   pub running-starts : (marks : State) → Running s t a marks k
   unfolding asked ahead-starts
@@ -175,11 +175,11 @@ module _ (s : List ℕ) (a : ℕ) (marks : State) (r : Runs) (is : r ≡ asked (
 
 -- EFFECTS.
 abbrev pub Effects-ahead : (s t : List ℕ) (k : ℕ) → Type 0
-Effects-ahead s t k = Ahead (Effect-here s) t effect-lines k
+Effects-ahead s t k = Ahead (Effect-here Flags s) t effect-lines k
 
 module _ (s t : List ℕ) (k : ℕ) (ahead : Effects-ahead s t k) (more : 0 < k) (p : ℕ) (at : p ≡ line-place t effect-lines k) where
-  effect-line : Effect-here s p
-  effect-line = line-fit (Effect-here s) t effect-lines k ahead more p at
+  effect-line : Effect-here Flags s p
+  effect-line = line-fit (Effect-here Flags s) t effect-lines k ahead more p at
 
   pub effect-body : List-here all-literals s (p + 2)
   effect-body = effect-line .body
@@ -205,31 +205,31 @@ third m mark least most small not some = omega (arith, not, some)
 pub record Sweeping (s t : List ℕ) (a : ℕ) (marks next : State) (k : ℕ) : Type 0 where
   pub ahead : Effects-ahead s t k
   pub marked : Marked next
-  pub same : swept-at s marks (effect-places s a) marks ≡ swept-at s marks (ahead .rest) next
+  pub same : swept-at s marks (effect-places Flags s a) marks ≡ swept-at s marks (ahead .rest) next
 
-pub sweeping-starts : (s t : List ℕ) (a k : ℕ) (marks : State) → At-hand s t → a < format .actions → Marked marks → k ≡ first-line t effect-lines a → Sweeping s t a marks marks k
+pub sweeping-starts : (s t : List ℕ) (a k : ℕ) (marks : State) → At-hand Flags s t → a < format .actions → Marked marks → k ≡ first-line t effect-lines a → Sweeping s t a marks marks k
 unfolding ahead-starts
 sweeping-starts s t a k marks here small fine at = record {
-  ahead = ahead-starts (Effect-here s) t effect-lines a (effect-places s a) (here .effects a small) (effects-at-hand s t here a .lines) k at;
+  ahead = ahead-starts (Effect-here Flags s) t effect-lines a (effect-places Flags s a) (here .effects a small) (effects-at-hand s t here a .lines) k at;
   marked = fine;
   same = refl;
 }
 
 module _ (s t : List ℕ) (a : ℕ) (marks next : State) (k : ℕ) (sweeps : Sweeping s t a marks next k) where
-  pub sweep-done : k ≤ 0 → swept-at s marks (effect-places s a) marks ≡ next
+  pub sweep-done : k ≤ 0 → swept-at s marks (effect-places Flags s a) marks ≡ next
   unfolding swept-at
-  sweep-done h = sweeps .same ∙ ap (λ (qs : List ℕ). swept-at s marks qs next) (ahead-none (Effect-here s) t effect-lines k (sweeps .ahead) h)
+  sweep-done h = sweeps .same ∙ ap (λ (qs : List ℕ). swept-at s marks qs next) (ahead-none (Effect-here Flags s) t effect-lines k (sweeps .ahead) h)
 
   module _ (more : 0 < k) (p j : ℕ) (at : p ≡ line-place t effect-lines k) (onward : j ≡ next-line t effect-lines k) where
     sweep-on : (after : State) → Marked after → swept-one s marks p next ≡ after → Sweeping s t a marks after j
     unfolding swept-at line-others
     sweep-on after fine e = record {
-      ahead = line-others (Effect-here s) t effect-lines k (sweeps .ahead) more j onward;
+      ahead = line-others (Effect-here Flags s) t effect-lines k (sweeps .ahead) more j onward;
       marked = fine;
       same =
           sweeps .same
-          ∙ ap (λ (qs : List ℕ). swept-at s marks qs next) (line-rest (Effect-here s) t effect-lines k (sweeps .ahead) more p at)
-          ∙ ap (swept-at s marks (ahead-first (Effect-here s) t effect-lines k (sweeps .ahead) more .others)) e;
+          ∙ ap (λ (qs : List ℕ). swept-at s marks qs next) (line-rest (Effect-here Flags s) t effect-lines k (sweeps .ahead) more p at)
+          ∙ ap (swept-at s marks (ahead-first (Effect-here Flags s) t effect-lines k (sweeps .ahead) more .others)) e;
     }
 
     module _ (l mark : ℕ) (is : l ≡ getD s (p + 1) 0) (marked : mark ≡ mark-of l) where

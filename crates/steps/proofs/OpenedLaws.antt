@@ -120,7 +120,7 @@ module _ (flags held : List ℕ) (k f : ℕ) (gathers : Gathering flags held k f
         }
 
 -- THE OPEN FLUENTS are those with a flag.
-module _ (s t : List ℕ) (a : ℕ) (marks flags : State) (here : At-hand s t) (open-are : Open-flags (table-in Flags s) a marks flags) where
+module _ (s t : List ℕ) (a : ℕ) (marks flags : State) (here : At-hand Flags s t) (open-are : Open-flags (table-in Flags s) a marks flags) where
   ranged : Ranged format (table-in Flags s)
   ranged = table-ranged format s 0 (table-in Flags s) (here .table-end) (here .table)
 

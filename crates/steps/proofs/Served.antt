@@ -16,7 +16,7 @@ use Rattle.meaning.specs.Lines.{effects-of, executability-of, given}
 use Rattle.meaning.specs.Asking.{short-by, fewest, nearest, first-allowing}
 use Rattle.meaning.proofs.TestLaws.{those-has, some-mapped}
 use Rattle.reading.specs.Listed.{listed, List-here}
-use Rattle.finding.specs.LinesHere.{effect-from, Effect-here}
+use Rattle.finding.specs.LinesHere.{Consistent, effect-from, Effect-here}
 use Rattle.finding.proofs.ReadLaws.{effect-good, run-stands}
 use Rattle.steps.specs.Held.{table-in}
 use Rattle.steps.specs.AtHand.{At-hand}
@@ -67,17 +67,17 @@ module _ (s : List ℕ) (test : ℕ → Bool) where
 
 -- THE LINES OF AN ACTION.
 pub record Run-lines (s : List ℕ) (a : ℕ) : Type 0 where
-  pub lines : (p : ℕ) → Has (run-places s a) p → List-here all-literals s (p + 1)
-  pub first : (test : ℕ → Bool) (otherwise : Unit {0} → Runs) → first-allowing-at s test (run-places s a) otherwise ≡ first-allowing test (executability-of (table-in Flags s) a) otherwise
-  pub near : (test : ℕ → Bool) → nearest-at s test (run-places s a) ≡ nearest test (executability-of (table-in Flags s) a)
-  pub bodies : (test : List ℕ → Bool) → some-of (λ (p : ℕ). test (listed s (p + 1))) (run-places s a) ≡ some-of (λ (x : Executability). test (x .body)) (executability-of (table-in Flags s) a)
+  pub lines : (p : ℕ) → Has (run-places Flags s a) p → List-here all-literals s (p + 1)
+  pub first : (test : ℕ → Bool) (otherwise : Unit {0} → Runs) → first-allowing-at s test (run-places Flags s a) otherwise ≡ first-allowing test (executability-of (table-in Flags s) a) otherwise
+  pub near : (test : ℕ → Bool) → nearest-at s test (run-places Flags s a) ≡ nearest test (executability-of (table-in Flags s) a)
+  pub bodies : (test : List ℕ → Bool) → some-of (λ (p : ℕ). test (listed s (p + 1))) (run-places Flags s a) ≡ some-of (λ (x : Executability). test (x .body)) (executability-of (table-in Flags s) a)
 
 pub record Effects (s : List ℕ) (a : ℕ) : Type 0 where
-  pub lines : (p : ℕ) → Has (effect-places s a) p → Effect-here s p
-  pub same : (test : ℕ → Bool) (l : ℕ) → given-at s test (effect-places s a) l ≡ given test (effects-of (table-in Flags s) a) l
-  pub bodies : (test : List ℕ → Bool) → some-of (λ (p : ℕ). test (listed s (p + 2))) (effect-places s a) ≡ some-of (λ (e : Effect). test (e .body)) (effects-of (table-in Flags s) a)
+  pub lines : (p : ℕ) → Has (effect-places Flags s a) p → Effect-here Flags s p
+  pub same : (test : ℕ → Bool) (l : ℕ) → given-at s test (effect-places Flags s a) l ≡ given test (effects-of (table-in Flags s) a) l
+  pub bodies : (test : List ℕ → Bool) → some-of (λ (p : ℕ). test (listed s (p + 2))) (effect-places Flags s a) ≡ some-of (λ (e : Effect). test (e .body)) (effects-of (table-in Flags s) a)
 
-module _ (s t : List ℕ) (here : At-hand s t) (a : ℕ) where
+module _ (s t : List ℕ) (here : At-hand Flags s t) (a : ℕ) where
   pub runs-at-hand : Run-lines s a
   unfolding run-places executability-of
   runs-at-hand =
@@ -93,7 +93,7 @@ module _ (s t : List ℕ) (here : At-hand s t) (a : ℕ) where
             (λ r has. ap test (stands r has .0));
       }
     where
-      there : ((r : Executability) → Has (table-in Flags s .executability) r → (listed s (r .place + 1) ≡ r .body) × List-here all-literals s (r .place + 1))
+      there : ((r : Executability) → Has (table-in Flags s .executability) r → (listed s (r .place + 1) ≡ r .body) × List-here all-literals s (r .place + 1) × Consistent Flags s (r .body))
           → (r : Executability) → Has (those-of (λ (x : Executability). eqb (x .action) a) (table-in Flags s .executability)) r → listed s (r .place + 1) ≡ r .body
       there stands r has = stands r (those-has (λ (x : Executability). eqb (x .action) a) (table-in Flags s .executability) r has .0) .0
 

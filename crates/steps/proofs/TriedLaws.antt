@@ -78,7 +78,7 @@ module _ (t : Table) (a : ℕ) (marks : State) where
       }
 
 -- AN ACTION TRIED BY CASES.
-module _ (s notes : List ℕ) (here : At-hand s notes) (a : ℕ) (marks : State) (marked : Marked marks) (held : List ℕ) (found : Opened (open-fluents (table-in Flags s) a marks) held) where
+module _ (s notes : List ℕ) (here : At-hand Flags s notes) (a : ℕ) (marks : State) (marked : Marked marks) (held : List ℕ) (found : Opened (open-fluents (table-in Flags s) a marks) held) where
   abbrev t : Table
   t = table-in Flags s
 
@@ -159,7 +159,7 @@ Led : Step State → Type 0
 Led (leads-to o) = Unit {0}
 Led (refuses n c) = ⊥
 
-not-led : (n : ℕ) (c : Concerned State) (o : Outcome State) → refuses n c ≡ leads-to o → ⊥
+pub not-led : (n : ℕ) (c : Concerned State) (o : Outcome State) → refuses n c ≡ leads-to o → ⊥
 unfolding Led
 not-led n c o e = subst Led (sym e) tt
 

@@ -25,7 +25,7 @@ use reading::notes::next_line;
 
 // The line of the action that is short by the fewest literals, the earliest of equals, where none allows it.
 fn nearest(s: &[u8], t: &Notes, a: usize, marks: &Marks) -> Runs
-    requires { ⌜ At-hand (now s) (now t) ⌝ }
+    requires { ⌜ At-hand Flags (now s) (now t) ⌝ }
     requires { ⌜ a < format .actions ⌝ }
     ensures { λ r. ⌜ r ≡ nearest (known (now (marks .entry))) (executability-of (table-in Flags (now (s .entry))) a) ⌝ }
 {
@@ -52,7 +52,7 @@ fn nearest(s: &[u8], t: &Notes, a: usize, marks: &Marks) -> Runs
 
 // Whether the action can be run: the first of its lines that allows it, or else the nearest. Only where none allows it are literals counted.
 pub fn ask(s: &[u8], t: &Notes, a: usize, marks: &Marks) -> Runs
-    requires { ⌜ At-hand (now s) (now t) ⌝ }
+    requires { ⌜ At-hand Flags (now s) (now t) ⌝ }
     requires { ⌜ a < format .actions ⌝ }
     ensures { λ r. ⌜ r ≡ asked (table-in Flags (now (s .entry))) a (now (marks .entry)) ⌝ }
 {
@@ -71,7 +71,7 @@ pub fn ask(s: &[u8], t: &Notes, a: usize, marks: &Marks) -> Runs
 
 // Some line allows it.
 pub fn can_be_run(s: &[u8], t: &Notes, a: usize, marks: &Marks) -> bool
-    requires { ⌜ At-hand (now s) (now t) ⌝ }
+    requires { ⌜ At-hand Flags (now s) (now t) ⌝ }
     requires { ⌜ a < format .actions ⌝ }
     ensures { λ r. ⌜ r ≡ can-be-run (table-in Flags (now (s .entry))) a (now (marks .entry)) ⌝ }
 {
@@ -85,7 +85,7 @@ pub fn can_be_run(s: &[u8], t: &Notes, a: usize, marks: &Marks) -> bool
 // The state after an action that is not a sensing one and can be run. Each effect in turn tells what it gives or undoes what it may, and that
 // is final: no contradiction was found (16), so what one effect tells no other may undo. A body is looked at only where the mark could change.
 pub fn state_after(s: &[u8], t: &Notes, a: usize, marks: &Marks) -> Marks
-    requires { ⌜ At-hand (now s) (now t) ⌝ }
+    requires { ⌜ At-hand Flags (now s) (now t) ⌝ }
     requires { ⌜ a < format .actions ⌝ }
     requires { ⌜ Marked (now marks) ⌝ }
     requires { ⌜ can-be-run (table-in Flags (now s)) a (now marks) ≡ true ⌝ }

@@ -32,7 +32,7 @@ pub enum Tried {
 
 // The action can be run in each filling of the open fluents from number i up.
 fn runs_in_each(s: &[u8], t: &Notes, a: usize, held: &Open, i: usize, marks: Marks) -> bool
-    requires { ⌜ At-hand (now s) (now t) ⌝ }
+    requires { ⌜ At-hand Flags (now s) (now t) ⌝ }
     requires { ⌜ a < format .actions ⌝ }
     requires { ⌜ Filling (now held) i marks ⌝ }
     ensures { λ r. ⌜ r ≡ each-of (can-be-run (table-in Flags (now (s .entry))) a) (fillings (drop i (open-in (now (held .entry)))) marks) ⌝ }
@@ -73,7 +73,7 @@ fn shared(one: &Marks, other: &Marks) -> Marks
 
 // What the states after the action share, which is run in each filling of the open fluents from number i up.
 fn after_in_each(s: &[u8], t: &Notes, a: usize, held: &Open, i: usize, marks: Marks) -> Marks
-    requires { ⌜ At-hand (now s) (now t) ⌝ }
+    requires { ⌜ At-hand Flags (now s) (now t) ⌝ }
     requires { ⌜ a < format .actions ⌝ }
     requires { ⌜ Filling (now held) i marks ⌝ }
     requires { ⌜ each-of (can-be-run (table-in Flags (now s)) a) (fillings (drop i (open-in (now held))) marks) ≡ true ⌝ }
@@ -94,7 +94,7 @@ fn after_in_each(s: &[u8], t: &Notes, a: usize, held: &Open, i: usize, marks: Ma
 
 // The action is tried by cases. Where it can be run by what is known, no case is looked at.
 pub fn try_cases(s: &[u8], t: &Notes, a: usize, marks: &Marks) -> Tried
-    requires { ⌜ At-hand (now s) (now t) ⌝ }
+    requires { ⌜ At-hand Flags (now s) (now t) ⌝ }
     requires { ⌜ a < format .actions ⌝ }
     requires { ⌜ Marked (now marks) ⌝ }
     ensures { λ r. ⌜ cases-does (table-in Flags (now (s .entry))) a (now (marks .entry)) ≡ tried-as 1 (table-in Flags (now (s .entry))) a (now (marks .entry)) r ⌝ }
@@ -116,7 +116,7 @@ pub fn try_cases(s: &[u8], t: &Notes, a: usize, marks: &Marks) -> Tried
 
 // The state after an action that is not a sensing one and can be run by cases.
 pub fn after_cases(s: &[u8], t: &Notes, a: usize, marks: &Marks) -> Marks
-    requires { ⌜ At-hand (now s) (now t) ⌝ }
+    requires { ⌜ At-hand Flags (now s) (now t) ⌝ }
     requires { ⌜ a < format .actions ⌝ }
     requires { ⌜ Marked (now marks) ⌝ }
     requires { ⌜ too-many (table-in Flags (now s)) a (now marks) ≡ false ⌝ }

@@ -44,9 +44,9 @@ fn flag_body(s: &[u8], p: usize, marks: &Marks, flags: &mut Marks)
 
 // Those of the bodies of the action's effects.
 fn flag_effects(s: &[u8], t: &Notes, a: usize, marks: &Marks, flags: &mut Marks)
-    requires { ⌜ At-hand (now s) (now t) ⌝ }
+    requires { ⌜ At-hand Flags (now s) (now t) ⌝ }
     requires { ⌜ a < format .actions ⌝ }
-    ensures { λ _. ⌜ now (flags .exit) ≡ flagged-at (now (s .entry)) (now (marks .entry)) 2 (effect-places (now (s .entry)) a) (now (flags .entry)) ⌝ }
+    ensures { λ _. ⌜ now (flags .exit) ≡ flagged-at (now (s .entry)) (now (marks .entry)) 2 (effect-places Flags (now (s .entry)) a) (now (flags .entry)) ⌝ }
 {
     let mut k = first_line(t, notes::EFFECTS, a);
     while 0 < k {
@@ -59,9 +59,9 @@ fn flag_effects(s: &[u8], t: &Notes, a: usize, marks: &Marks, flags: &mut Marks)
 
 // Those of the bodies of its executability lines.
 fn flag_lines(s: &[u8], t: &Notes, a: usize, marks: &Marks, flags: &mut Marks)
-    requires { ⌜ At-hand (now s) (now t) ⌝ }
+    requires { ⌜ At-hand Flags (now s) (now t) ⌝ }
     requires { ⌜ a < format .actions ⌝ }
-    ensures { λ _. ⌜ now (flags .exit) ≡ flagged-at (now (s .entry)) (now (marks .entry)) 1 (run-places (now (s .entry)) a) (now (flags .entry)) ⌝ }
+    ensures { λ _. ⌜ now (flags .exit) ≡ flagged-at (now (s .entry)) (now (marks .entry)) 1 (run-places Flags (now (s .entry)) a) (now (flags .entry)) ⌝ }
 {
     let mut k = first_line(t, notes::EXECUTABILITY, a);
     while 0 < k {
@@ -74,7 +74,7 @@ fn flag_lines(s: &[u8], t: &Notes, a: usize, marks: &Marks, flags: &mut Marks)
 
 // Those of all bodies of the action, and no others.
 fn open_flags(s: &[u8], t: &Notes, a: usize, marks: &Marks) -> Marks
-    requires { ⌜ At-hand (now s) (now t) ⌝ }
+    requires { ⌜ At-hand Flags (now s) (now t) ⌝ }
     requires { ⌜ a < format .actions ⌝ }
     requires { ⌜ Marked (now marks) ⌝ }
     ensures { λ r. ⌜ Open-flags (table-in Flags (now (s .entry))) a (now (marks .entry)) r ⌝ }
@@ -110,7 +110,7 @@ fn gathered(flags: &Marks) -> Open
 
 // The open fluents of the action.
 pub fn opened(s: &[u8], t: &Notes, a: usize, marks: &Marks) -> Open
-    requires { ⌜ At-hand (now s) (now t) ⌝ }
+    requires { ⌜ At-hand Flags (now s) (now t) ⌝ }
     requires { ⌜ a < format .actions ⌝ }
     requires { ⌜ Marked (now marks) ⌝ }
     ensures { λ r. ⌜ Opened (open-fluents (table-in Flags (now (s .entry))) a (now (marks .entry))) r ⌝ }

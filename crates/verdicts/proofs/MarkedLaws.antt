@@ -44,10 +44,10 @@ pub cases-marked : (t : Table) (a : ℕ) (s : State) → Marked s → Does-keep 
 cases-marked t = cases-keep Marked t (marked-by t (after-cases t) (marked-after-cases t))
 
 -- Of the walk of what is held, whatever its mode.
-pub held-marked : (s t : List ℕ) → End-marked (walk-held s t .end)
+pub held-marked : (s t : List ℕ) → End-marked (walk-held Flags s t .end)
 unfolding walk-held step-in does-in request-in
 held-marked s t =
-    walked-kept Marked (request-in s t) (step-in s t)
+    walked-kept Marked (request-in Flags s t) (step-in Flags s t)
     (λ a u marked. pick-has (Does-keep Marked) _ _ _ (λ _. known-marked (table-in Flags s) a u marked)
     (λ _. pick-has (Does-keep Marked) _ _ _ (λ _. narrow-marked (table-in Flags s) a u marked) (λ _. cases-marked (table-in Flags s) a u marked)))
     (first-state format (table-in Flags s)) (first-marked (table-in Flags s))
@@ -56,9 +56,9 @@ held-marked s t =
 abbrev pub End-small : End State → Type 0
 End-small = End-so (λ _ _. Unit {0}) (λ n _ _. n < 256)
 
-pub held-small : (s t : List ℕ) → End-small (walk-held s t .end)
+pub held-small : (s t : List ℕ) → End-small (walk-held Flags s t .end)
 held-small s t =
     held-so (λ _ _. Unit {0}) (λ n _ _. n < 256) (λ _. Unit {0}) (λ _. Unit {0})
     (record { misses = λ _ _ _. tt; stuck = λ _ _ _ _. omega arith; wide = λ _ _. omega arith; many = λ _ _. omega arith; breaks = λ _ _ _. omega arith }) s t
     (λ a u _. any-outcome (outcome-to (table-in Flags s) a u (state-after (table-in Flags s) a u))) (λ a u _. any-outcome (outcome-to (table-in Flags s) a u (after-cases (table-in Flags s) a u)))
-    (on-places (λ _. Unit {0}) (λ _. tt) (plan-in s t)) tt
+    (on-places (λ _. Unit {0}) (λ _. tt) (plan-in Flags s t)) tt

@@ -132,7 +132,7 @@ module _ (s t u : List ℕ) (r : Read) (read : outcome-met r u ≡ opening-noted
       let g = open-got n q is in
       let o = opened format s (g .0) q (g .1) in
       record {
-        here = subst (Table-here s) (sym (g .3 ∙ ap (table-noted (g .0 .table)) empty)) (table-comes s (λ i. bytes i .fits) (o .short) (g .0 .table) (g .0 .table-end) (o .table));
+        here = subst (Table-here Flags s) (sym (g .3 ∙ ap (table-noted (g .0 .table)) empty)) (table-comes Flags s (λ i. bytes i .fits) (o .short) (g .0 .table) (g .0 .table-end) (o .table));
         opens = g .0;
         opened = g .1;
         counts = g .2;
@@ -158,7 +158,7 @@ module _ (s t : List ℕ) (plans start : ℕ) (here : Opened-here s t plans star
       let same = here .counts in
       record { fits = omega arith }
 
-  pub table-there : Table-here s t
+  pub table-there : Table-here Flags s t
   table-there = here .here
 
   pub start-inside : start ≤ length s
@@ -208,7 +208,7 @@ module _ (s t : List ℕ) (plans start : ℕ) (here : Opened-here s t plans star
         clean-there = refuse-got _ _ _ (passed-to (table-settled (table-in Flags s) (start - 1)) q (sym asked ∙ goes) .1) .0
 
 -- PAST 16 AND 17.
-module _ (s t : List ℕ) (here : Table-here s t) where
+module _ (s t : List ℕ) (here : Table-here Flags s t) where
   front-there : Front Flags s 0 (table-in Flags s)
   front-there = front-here s t here
 
@@ -291,29 +291,29 @@ module _ (s : List ℕ) (n m : ℕ) (counted : Counted s n m) (plans start left 
     seeking-none over = sym (ap found (all-read ∙ pick-false _ _ _ (le-ltb _ _ over)))
 
 -- ONE PLAN at hand. The lent state does not matter to the answer.
-module _ (s t : List ℕ) (here : At-hand s t) (items : ℕ) (is : items ≡ getD t items-slot 0) where
-  counts-items : items-of (plan-in s t) ≡ items
+module _ (s t : List ℕ) (here : At-hand Flags s t) (items : ℕ) (is : items ≡ getD t items-slot 0) where
+  counts-items : items-of (plan-in Flags s t) ≡ items
   counts-items = sym (is ∙ items-are s t here)
 
-  pub plan-there : Some-plan s t items
-  plan-there = record { plan = plan-in s t; held = here .held; items = counts-items }
+  pub plan-there : Some-plan Flags s t items
+  plan-there = record { plan = plan-in Flags s t; held = here .held; items = counts-items }
 
   module _ (f : Found) (answer : Overlap-found s t items f) (budget : ℕ) where
-    overlap-is : f ≡ found (overlap-in (plan-in s t))
-    overlap-is = answer .holds (plan-in s t) (here .held) counts-items
+    overlap-is : f ≡ found (overlap-in (plan-in Flags s t))
+    overlap-is = answer .holds (plan-in Flags s t) (here .held) counts-items
 
-    pub plan-18 : (p : ℕ) → f ≡ At p → (a : Answer) → a ≡ record { number = 18; input = 1; place = p; count = 0 } → a ≡ plan-answer format budget (got (request-in s t) 0)
+    pub plan-18 : (p : ℕ) → f ≡ At p → (a : Answer) → a ≡ record { number = 18; input = 1; place = p; count = 0 } → a ≡ plan-answer format budget (got (request-in Flags s t) 0)
     unfolding plan-answer judge-got next refuse request-in
-    plan-18 p met a said = said ∙ sym (ap (λ (g : Refusals.Found). judge-settled format [] budget (refuse 18 g (λ _. got (request-in s t) 0)) .answer) (found-at (overlap-in (plan-in s t)) f overlap-is p met))
+    plan-18 p met a said = said ∙ sym (ap (λ (g : Refusals.Found). judge-settled format [] budget (refuse 18 g (λ _. got (request-in Flags s t) 0)) .answer) (found-at (overlap-in (plan-in Flags s t)) f overlap-is p met))
 
-    pub plan-walked : f ≡ Nowhere → (lent left : List ℕ) (a : Answer) → record { answer = a; state = left } ≡ within lent budget (walk-held s t)
-        → guards-in s t ≡ [] → mode-in t ≡ 0 → a ≡ plan-answer format budget (got (request-in s t) 0)
+    pub plan-walked : f ≡ Nowhere → (lent left : List ℕ) (a : Answer) → record { answer = a; state = left } ≡ within lent budget (walk-held Flags s t)
+        → guards-in s t ≡ [] → mode-in t ≡ 0 → a ≡ plan-answer format budget (got (request-in Flags s t) 0)
     unfolding plan-answer judge-got next refuse request-in
     plan-walked none lent left a walks unguarded known =
         ap (λ (j : Judgement). j .answer) walks
-        ∙ within-unread lent [] budget (walk-held s t)
+        ∙ within-unread lent [] budget (walk-held Flags s t)
         ∙ ap (λ (w : Walked State). within [] budget w .answer) (held-plain s t known unguarded)
-        ∙ sym (ap (λ (g : Refusals.Found). judge-settled format [] budget (refuse 18 g (λ _. got (request-in s t) 0)) .answer) (found-none (overlap-in (plan-in s t)) f overlap-is none))
+        ∙ sym (ap (λ (g : Refusals.Found). judge-settled format [] budget (refuse 18 g (λ _. got (request-in Flags s t) 0)) .answer) (found-none (overlap-in (plan-in Flags s t)) f overlap-is none))
 
 -- THE ROW, from the left.
 module _ (row : List ℕ) (k : ℕ) (room : 4 * k + 4 ≤ length row) where
@@ -387,13 +387,13 @@ module _ (all row : List ℕ) (plans i : ℕ) (leaves : Leaving all row plans i)
 
 -- THE SECOND PASS.
 pub record Answering (s t row : List ℕ) (budget plans start k p : ℕ) : Type 0 where
-  pub here : Table-here s t
+  pub here : Table-here Flags s t
   pub few : k ≤ plans
   pub inside : p ≤ length s
   pub sized : length row ≡ 4 * plans
   pub so-far : rows (answers-at format s (table-in Flags s) budget plans start) ≡ take (4 * k) row ++ rows (answers-at format s (table-in Flags s) budget (plans - k) p)
 
-pub answering-starts : (s t row : List ℕ) (budget plans start : ℕ) → Table-here s t → start ≤ length s → length row ≡ 4 * plans → Answering s t row budget plans start 0 start
+pub answering-starts : (s t row : List ℕ) (budget plans start : ℕ) → Table-here Flags s t → start ≤ length s → length row ≡ 4 * plans → Answering s t row budget plans start 0 start
 answering-starts s t row budget plans start here inside sized = record {
   here = here;
   few = omega arith;
@@ -433,8 +433,8 @@ module _ (s t row : List ℕ) (budget plans start k p : ℕ) (answers : Answerin
     y : (y : Request) × (request-at format Flags s (table-in Flags s) p ≡ got y e) × (u ≡ tail-noted Flags y t)
     y = plan-got s n m counted p t u r read e is
 
-    pub answering-hand : contradiction-in (table-in Flags s) ≡ nowhere → At-hand s u
-    answering-hand clean = subst (At-hand s) (sym (y .2)) (plan-at-hand s t (answers .here) 0 p (y .0) e (y .1) clean (λ some. clash (eq-eqb 0 0 refl) some))
+    pub answering-hand : contradiction-in (table-in Flags s) ≡ nowhere → At-hand Flags s u
+    answering-hand clean = subst (At-hand Flags s) (sym (y .2)) (plan-at-hand s t (answers .here) 0 p (y .0) e (y .1) clean (λ some. clash (eq-eqb 0 0 refl) some))
 
     pub answering-unguarded : guards-in s u ≡ []
     answering-unguarded = ap (guards-in s) (y .2) ∙ plan-unguarded s t (answers .here) p (y .0) e (y .1)
@@ -443,10 +443,10 @@ module _ (s t row : List ℕ) (budget plans start k p : ℕ) (answers : Answerin
     pub answering-known : mode-in u ≡ 0
     answering-known = ap mode-in (y .2) ∙ table-mode s (tail-noted Flags (y .0) t) (table-stays s t (answers .here) 0 p (y .0) e (y .1))
 
-    held-is : request-in s u ≡ y .0
-    held-is = ap (request-in s) (y .2) ∙ plan-request s t (answers .here) 0 p (y .0) e (y .1)
+    held-is : request-in Flags s u ≡ y .0
+    held-is = ap (request-in Flags s) (y .2) ∙ plan-request s t (answers .here) 0 p (y .0) e (y .1)
 
-    module _ (a : Answer) (given : a ≡ plan-answer format budget (got (request-in s u) 0)) where
+    module _ (a : Answer) (given : a ≡ plan-answer format budget (got (request-in Flags s u) 0)) where
       answer-is : a ≡ plan-answer format budget (request-at format Flags s (table-in Flags s) p)
       answer-is = given ∙ ap (λ (x : Request). plan-answer format budget (got x 0)) held-is ∙ sym (ap (plan-answer format budget) (y .1) ∙ answer-anywhere (y .0) budget e)
 
@@ -460,7 +460,7 @@ module _ (s t row : List ℕ) (budget plans start k p : ℕ) (answers : Answerin
       pub answering-next : (left : List ℕ) → left ≡ with-answer row k a → Answering s u left budget plans start (k + 1) e
       unfolding after-plan
       answering-next left written = record {
-        here = subst (Table-here s) (sym (y .2)) (table-stays s t (answers .here) 0 p (y .0) e (y .1));
+        here = subst (Table-here Flags s) (sym (y .2)) (table-stays s t (answers .here) 0 p (y .0) e (y .1));
         few = omega arith;
         inside = plan-inside format s (table-in Flags s) budget (table-below format s (table-in Flags s) (answers .here .table-end) (answers .here .table)) p (answers .inside) (y .0) e (y .1);
         sized = rw written (put-long row k a ∙ answers .sized);

@@ -24,6 +24,7 @@ use Rattle.walking.specs.Standing.{Standing, nothing, spent, so-far, spend, add
 use Rattle.walking.proofs.StandingLaws.{stands-open, end-missed, end-stateless, end-stopped, sized-after}
 use Rattle.verdicts.specs.Telling.{told, Tallied}
 use Rattle.verdicts.proofs.MarkedLaws.{End-marked, held-marked, End-small, held-small}
+use Rattle.meaning.specs.declared.Form.the-variants.{Flags}
 
 -- STANDINGS.
 so-far≢spent : {l : ℕ} {e : End State} → so-far l e ≡ spent → ⊥
@@ -105,16 +106,16 @@ module _ (budget : ℕ) (w : Walked State) where
     }
 
 -- THE WALK of a request at hand, from its first state.
-module _ (s t : List ℕ) (here : At-hand s t) (items at : ℕ) (counted : items ≡ getD t items-slot 0) (starts : at ≡ start items)
+module _ (s t : List ℕ) (here : At-hand Flags s t) (items at : ℕ) (counted : items ≡ getD t items-slot 0) (starts : at ≡ start items)
     (marks : State) (is : marks ≡ state-of format (listed s 2)) (budget : ℕ) (before after : List ℕ)
-    (opens : standing before ≡ so-far budget fine) (going : Going before) (walks : standing after ≡ add (standing before) (met-from s t at marks)) where
-  stands-so : standing after ≡ spend budget (λ e. e) (walk-held s t)
+    (opens : standing before ≡ so-far budget fine) (going : Going before) (walks : standing after ≡ add (standing before) (met-from Flags s t at marks)) where
+  stands-so : standing after ≡ spend budget (λ e. e) (walk-held Flags s t)
   unfolding add
-  stands-so = walks ∙ ap (λ (a : Standing). add a (met-from s t at marks)) opens ∙ ap (spend budget (λ e. e)) (walks-first s t here items at counted starts marks is)
+  stands-so = walks ∙ ap (λ (a : Standing). add a (met-from Flags s t at marks)) opens ∙ ap (spend budget (λ e. e)) (walks-first s t here items at counted starts marks is)
 
   pub plan-tallied : Tallied after budget
-  plan-tallied = tallied budget (walk-held s t) after (sized-after before going (met-from s t at marks) after walks) stands-so (held-marked s t) (held-small s t)
+  plan-tallied = tallied budget (walk-held Flags s t) after (sized-after before going (met-from Flags s t at marks) after walks) stands-so (held-marked s t) (held-small s t)
 
   pub plan-judged : (lent left : List ℕ) (answer : Answer) → record { answer = answer; state = left } ≡ told lent budget (standing after)
-      → record { answer = answer; state = left } ≡ within lent budget (walk-held s t)
-  plan-judged lent left answer says = says ∙ ap (told lent budget) stands-so ∙ told-within budget (walk-held s t) lent
+      → record { answer = answer; state = left } ≡ within lent budget (walk-held Flags s t)
+  plan-judged lent left answer says = says ∙ ap (told lent budget) stands-so ∙ told-within budget (walk-held Flags s t) lent

@@ -20,7 +20,7 @@ opening-noted s t = next (opening format s) λ o p. got (record { value = table-
 
 -- A file that was opened: its table is there, and its plans start at a place.
 pub record Opened-here (s t : List ℕ) (plans start : ℕ) : Type 0 where
-  pub here : Table-here s t
+  pub here : Table-here Flags s t
   pub opens : Opening
   pub opened : opening format s ≡ got opens start
   pub counts : opens .plans ≡ plans

@@ -78,13 +78,13 @@ fn byte_after(n: usize, m: usize, file: &[u8], plans: usize, start: usize) -> Fo
 
 // What the walk call answers of the plan at hand: 18, or how its walk ended. The state concerned is handed to nobody.
 fn answer_plan(file: &[u8], t: &Notes, budget: u32) -> Answer
-    requires { ⌜ At-hand (now file) (now t) ⌝ }
+    requires { ⌜ At-hand Flags (now file) (now t) ⌝ }
     requires { ⌜ guards-in (now file) (now t) ≡ [] ⌝ }
     requires { ⌜ mode-in (now t) ≡ 0 ⌝ }
-    ensures { λ r. ⌜ r ≡ plan-answer format budget (got (request-in (now (file .entry)) (now (t .entry))) 0) ⌝ }
+    ensures { λ r. ⌜ r ≡ plan-answer format budget (got (request-in Flags (now (file .entry)) (now (t .entry))) 0) ⌝ }
 {
     let items = get(t, notes::ITEMS);
-    match overlap(file, t, items) {
+    match overlap(Form::Flags, file, t, items) {
         Found::Nowhere => {
             let mut state = [0u8; limits::FLUENTS];
             walk_plan(file, t, &mut state, budget)
@@ -135,7 +135,7 @@ fn answer_plans(
     start: usize,
 )
     requires { ⌜ Counted (now file) n m ⌝ }
-    requires { ⌜ Table-here (now file) (now t) ⌝ }
+    requires { ⌜ Table-here Flags (now file) (now t) ⌝ }
     requires { ⌜ contradiction-in (table-in Flags (now file)) ≡ nowhere ⌝ }
     requires { ⌜ start ≤ length (now file) ⌝ }
     requires { ⌜ length (now row) ≡ 4 * plans ⌝ }
@@ -169,7 +169,7 @@ fn answer_file(
     plans: usize,
     start: usize,
 ) -> Answer
-    requires { ⌜ Table-here (now file) (now t) ⌝ }
+    requires { ⌜ Table-here Flags (now file) (now t) ⌝ }
     requires { ⌜ contradiction-in (table-in Flags (now file)) ≡ nowhere ⌝ }
     requires { ⌜ start ≤ length (now file) ⌝ }
     requires { ⌜ length (now row) ≡ 4 * plans ⌝ }
@@ -201,7 +201,7 @@ fn release_opened(
     if row.len() != ROW_NUMBERS * plans {
         return uncounted(answers::STATE_LENGTH, answers::NEITHER_INPUT, 0);
     }
-    match table_refused(file, t, start - 1) {
+    match table_refused(Form::Flags, file, t, start - 1) {
         Passed::To(_) => answer_file(file, t, row, budget, plans, start),
         Passed::Fault(k, p) => uncounted(k, answers::THE_REQUEST, p),
     }

@@ -2,10 +2,9 @@
 use Prim.Native.Nat.{_-_}
 use mathlib.Core.Path.{_≡_}
 use mathlib.Core.List.{[]}
-use Rattle.meaning.specs.Refusals.{contradictory, first-against}
+use Rattle.meaning.specs.Refusals.{first-against}
 use Rattle.finding.specs.LinesHere.{effects-in}
-use Rattle.finding.specs.TablesHere.{table-in}
-use Rattle.refusing.specs.Refusal16.{effects-before, Linked}
+use Rattle.refusing.specs.Refusal16.{contradictory-as, effects-before, Linked}
 use Rattle.refusing.proofs.Laws16.{linked-none, effects-start, here-first, line-here, line-bucket, linked-next, effects-met, effects-next, effects-done}
 use borrow.Author.Needs.{needs}
 use Rattle.refusing.proofs.refusal_16.contradiction.Statement.{statement}
@@ -16,13 +15,12 @@ use Rattle.reading.proofs.notes.line_place.Reads as line-place-reads
 use Rattle.refusing.proofs.refusal_16.contradicted.Reads as contradicted-reads
 use Rattle.refusing.proofs.refusal_16.link_bucket.Reads as link-bucket-reads
 use Rattle.refusing.proofs.refusal_16.bucket_at.Reads as bucket-at-reads
-use Rattle.meaning.specs.declared.Form.the-variants.{Flags}
 
 abbrev Inv-loop : tie.InvT-loop
-Inv-loop s t count same₀ k₀ same k = Linked s t same k × (first-against (contradictory (table-in Flags s)) [] (effects-in s t 0 count) ≡ first-against (contradictory (table-in Flags s)) (effects-before s t k) (effects-in s t k (count - k)))
+Inv-loop form s t count same₀ k₀ same k = Linked form s t same k × (first-against (contradictory-as form s) [] (effects-in form s t 0 count) ≡ first-against (contradictory-as form s) (effects-before form s t k) (effects-in form s t k (count - k)))
 
 abbrev μ-loop : tie.MeasureT-loop
-μ-loop s t count same₀ k₀ same k = count - k
+μ-loop form s t count same₀ k₀ same k = count - k
 
 -- src/refusal_16.rt:154:5
 loop-holds : tie.Need-loop-holds Inv-loop μ-loop
@@ -30,7 +28,7 @@ loop-holds c = search (linked-none, effects-start)
 
 -- src/refusal_16.rt:155:13
 contradicted-requires : tie.Need-contradicted-requires Inv-loop μ-loop
-contradicted-requires c κs = search (needs, here-first)
+contradicted-requires c κs = (search needs, (search needs, (search needs, (search here-first, search needs))))
 
 -- src/refusal_16.rt:156:9
 add-k : tie.Need-add-k Inv-loop μ-loop

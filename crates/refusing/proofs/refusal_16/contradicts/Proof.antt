@@ -1,6 +1,6 @@
 -- Effects of other actions and of other fluents don't contradict. Two literals of one fluent are equal or complements; and a body is possible where
 -- another is held exactly where the two are not exclusive, an executability line's body too.
-use Rattle.refusing.proofs.Laws16.{action-other, fluent-other, literal-same, bodies-apart, bodies-together}
+use Rattle.refusing.proofs.FlagClashes.{action-other, fluent-other, literal-same, bodies-apart, bodies-together}
 use borrow.Author.Needs.{needs}
 use Rattle.refusing.proofs.refusal_16.contradicts.Statement.{statement}
 use Rattle.refusing.proofs.refusal_16.contradicts.Tie as tie

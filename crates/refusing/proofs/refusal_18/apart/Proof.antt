@@ -34,7 +34,7 @@ add-item c = search needs
 
 -- src/refusal_18.rt:78:9
 all-exclusive-requires : tie.Need-all-exclusive-requires
-all-exclusive-requires c κs = search (needs, item-branches)
+all-exclusive-requires c κs = (search needs, search item-branches)
 
 -- src/refusal_18.rt:78:9
 returns : tie.Need-returns

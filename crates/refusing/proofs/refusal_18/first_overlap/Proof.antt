@@ -14,10 +14,10 @@ use Rattle.refusing.proofs.refusal_18.apart.Reads as apart-reads
 use Rattle.reading.proofs.notes.get.Reads as get-reads
 
 abbrev Inv-loop : tie.InvT-loop
-Inv-loop s t count i₀ i = found (first-overlap s t count 0) ≡ found (first-overlap s t (count - i) i)
+Inv-loop form s t count i₀ i = found (first-overlap form s t count 0) ≡ found (first-overlap form s t (count - i) i)
 
 abbrev μ-loop : tie.MeasureT-loop
-μ-loop s t count i₀ i = count - i
+μ-loop form s t count i₀ i = count - i
 
 -- src/refusal_18.rt:89:5
 loop-holds : tie.Need-loop-holds Inv-loop μ-loop
@@ -33,7 +33,7 @@ get-requires c κs = search needs
 
 -- src/refusal_18.rt:91:13
 apart-requires : tie.Need-apart-requires Inv-loop μ-loop
-apart-requires c κs = search (needs, item-there)
+apart-requires c κs = (search needs, search item-there)
 
 -- src/refusal_18.rt:92:9
 add-i : tie.Need-add-i Inv-loop μ-loop

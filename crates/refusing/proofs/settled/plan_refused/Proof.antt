@@ -1,5 +1,5 @@
 -- An overlap is refused at its place; else nothing is.
-use Rattle.refusing.proofs.SettleLaws.{stand-18, none-18, at-18}
+use Rattle.refusing.proofs.SettleLaws.{values-18, stand-18, none-18, at-18}
 use borrow.Author.Needs.{needs}
 use Rattle.refusing.proofs.settled.plan_refused.Statement.{statement}
 use Rattle.refusing.proofs.settled.plan_refused.Tie as tie
@@ -14,7 +14,7 @@ get-requires c κs = search needs
 
 -- src/settled.rt:58:11
 overlap-requires : tie.Need-overlap-requires
-overlap-requires c κs = search (stand-18, c .before .shared-slice-known .given)
+overlap-requires c κs = (search (values-18, c .before .shared-slice-known .given), search (stand-18, c .before .shared-slice-known .given))
 
 -- src/settled.rt:59:27
 enum-told : tie.Need-enum-told

@@ -1,5 +1,5 @@
 -- A contradiction is refused at its place; else the answer is that of 17.
-use Rattle.refusing.proofs.SettleLaws.{few-16, runs-16, stand-16, past-16, at-16}
+use Rattle.refusing.proofs.SettleLaws.{few-16, runs-16, values-16, stand-16, past-16, at-16}
 use borrow.Author.Needs.{needs}
 use Rattle.refusing.proofs.settled.table_refused.Statement.{statement}
 use Rattle.refusing.proofs.settled.table_refused.Tie as tie
@@ -15,7 +15,7 @@ get-requires c κs = search needs
 
 -- src/settled.rt:46:11
 contradiction-requires : tie.Need-contradiction-requires
-contradiction-requires c κs = search (needs, few-16, runs-16, stand-16)
+contradiction-requires c κs = search (needs, few-16, runs-16, values-16, stand-16)
 
 -- src/settled.rt:47:27
 enum-told : tie.Need-enum-told

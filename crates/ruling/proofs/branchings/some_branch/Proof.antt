@@ -16,9 +16,10 @@ use Rattle.reading.proofs.marks.each_holds.Reads as each-holds-reads
 use Rattle.finding.proofs.branches.next_item.Reads as next-item-reads
 use Rattle.finding.proofs.branches.next_place.Reads as next-place-reads
 use Rattle.finding.proofs.branches.sequence_of.Reads as sequence-of-reads
+use Rattle.meaning.specs.declared.Form.the-variants.{Flags}
 
 abbrev Inv-loop : tie.InvT-loop
-Inv-loop d t held first cited yc y more second count start rest left₀ p₀ i₀ left p i = Branches-here d t left p i × Trying d t held first cited yc y more left p i
+Inv-loop d t held first cited yc y more second count start rest left₀ p₀ i₀ left p i = Branches-here Flags d t left p i × Trying d t held first cited yc y more left p i
 
 abbrev μ-loop : tie.MeasureT-loop
 μ-loop d t held first cited yc y more second count start rest left₀ p₀ i₀ left p i = left
