@@ -1,6 +1,7 @@
 // Judges the request on standard input, and says so on standard output (FORMAT 12.1 to 12.6, 12.13, 12.21, 18.17, 21.19, 21.20, 22.16, 23.19, 23.20, 26.92, 26.93).
 ghost use Rattle.programs.specs.Input.{Within};
 use bytes::limits;
+use glintstring::judging::Judged;
 use glintstring::judging::judge;
 use glintstring::judging::judge_by_cases;
 use glintstring::judging::judge_guarded;
@@ -57,7 +58,10 @@ fn answer_to(request: &[u8], index: &[u8], budget: u32, call: Call, line: bool) 
         Call::Guarded => judge_guarded(request, &mut state, budget),
         Call::ByCases => judge_by_cases(request, &mut state, budget),
         Call::Indexed => judge_indexed(request, index, &mut state, budget),
-        Call::Values => judge_values(request, &mut state, budget),
+        Call::Values => Judged {
+            answer: judge_values(request, &mut state, budget),
+            line: 0,
+        },
     };
     let answer = judged.answer;
     if !put_line(
