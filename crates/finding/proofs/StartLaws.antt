@@ -1,19 +1,23 @@
 -- Where the parts of a request stand that come first: its counts, at the start and behind the numbers of values, and its facts behind them. A count takes one byte, and each
 -- reader starts where the one before it ended. Assumes nothing.
-use Prim.Native.Nat.{ℕ, _+_, _<_}
+use Prim.Native.Nat.{ℕ, _+_, _≤_, _<_}
 use native.Mathlib.Omega.{arith}
 use mathlib.Core.Path.{_≡_, sym, _∙_, ap, subst}
 use mathlib.Core.List.{List}
 use lib.ListN.{length, getD}
+use lib.Dec.{ltb}
+use borrow.Author.Tests.{ltb-true}
 use Rattle.meaning.specs.Limits.{format}
 use Rattle.meaning.specs.Requests.{Table, Request}
 use Rattle.meaning.specs.declared.Form.{Form}
 use Rattle.meaning.specs.declared.Form.the-variants.{Flags, Valued}
-use Rattle.meaning.specs.Reading.{got, count-at, literals-at, effect-at, executability-at, knowledge-at, section-at, table-at, request-at, read-request}
+use Rattle.meaning.specs.Reading.{got, values-in, value-counts-at, count-at, literals-at, effect-at, executability-at, knowledge-at, section-at, table-at, request-at, read-request}
+use Rattle.meaning.proofs.TestLaws.{by-test, pick-true, pick-false}
 use Rattle.meaning.proofs.SettledLaws.{got-same}
 use Rattle.meaning.proofs.RangeLaws.{not-refused, after-got, count-within}
 use Rattle.reading.specs.Listed.{listed-as, Literals-here}
 use Rattle.reading.proofs.SectionLaws.{count-got}
+use Rattle.reading.proofs.ValueSizes.{counts-within}
 use Rattle.reader.specs.Sections.{actions-place}
 use Rattle.reader.proofs.WholeLaws.{Front, front, behind-values}
 use Rattle.finding.specs.TablesHere.{table-in, facts-place, Table-here}
@@ -66,3 +70,17 @@ module _ {form : Form} (s t : List ℕ) (here : Table-here form s t) where
 
   pub second-byte : actions-place form 0 (table-in form s .fluents) < length s
   second-byte = front-here .second
+
+-- EACH FLUENT has two values at least, also a number that is no fluent of the request.
+pub two-values : (s : List ℕ) (t : Table) (p : ℕ) → table-at format Valued s 0 ≡ got t p → (f : ℕ) → 2 ≤ values-in s f
+unfolding table-at values-in
+two-values s t p e f =
+    after-got (count-at 1 (format .fluents) s 0) _ e λ n p₁ en u₁.
+    after-got (value-counts-at n s p₁) _ u₁ λ cs p₂ ec _.
+    let first = count-got 1 (format .fluents) s 0 n p₁ en in
+    by-test (ltb f (getD s 0 0))
+    (λ near.
+    let below = ltb-true f (getD s 0 0) near in
+    let least = counts-within n s p₁ cs p₂ ec f (omega (arith, below, first .1)) .0 in
+    subst (λ (x : ℕ). 2 ≤ x) (sym (pick-true _ _ _ near ∙ ap (λ (i : ℕ). getD s (i + f) 0) (first .2))) least)
+    (λ far. subst (λ (x : ℕ). 2 ≤ x) (sym (pick-false _ _ _ far)) (omega arith))

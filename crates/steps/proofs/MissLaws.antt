@@ -109,7 +109,7 @@ module _ (test : ℕ → Bool) (s : List ℕ) (p end : ℕ) (whole : Code.Found)
   missed-done h = sym (so-far .1 ∙ rw (bytes-done s end i h))
 
 -- THE GOALS, and then the whether entries.
-missed-parts : (form : Form) (s t : List ℕ) (marks : State) → missed-as form s t marks ≡ or-else (first-missed (knows-as form s marks) (request-in form s t .goals)) (λ _. first-missed (whether-as form s marks) (request-in form s t .whether))
+pub missed-parts : (form : Form) (s t : List ℕ) (marks : State) → missed-as form s t marks ≡ or-else (first-missed (knows-as form s marks) (request-in form s t .goals)) (λ _. first-missed (whether-as form s marks) (request-in form s t .whether))
 unfolding missed-in Value.missed-in
 missed-parts Flags s t marks = refl
 missed-parts Valued s t marks = refl
