@@ -36,12 +36,13 @@ use Rattle.finding.specs.Branches.{sequence-place}
 use Rattle.finding.specs.TablesHere.{blank}
 use Rattle.steps.specs.Held.{guards-in, request-in}
 use Rattle.steps.specs.AtHand.{At-hand}
-use Rattle.steps.specs.Steps.{narrow-mode, mode-in, walk-held}
+use Rattle.steps.specs.Steps.{narrow-mode, mode-in, form-in, walk-held}
 use Rattle.steps.proofs.HandLaws.{is-whether}
 use Rattle.steps.proofs.ModeLaws.{held-plain, held-narrow}
 use Rattle.steps.proofs.ModeHand.{new-mode, same-request, same-guarded, hand-stays}
 use Rattle.schemes.specs.declared.scheme.Size.{Size}
 use Rattle.schemes.specs.Sizes.{Measured}
+use Rattle.verdicts.proofs.WalkedLaws.{flags-mode}
 use Rattle.glintstring.specs.CheckCalls.{too-many}
 use Rattle.glintstring.proofs.SettledAtHand.{settled-got, settled-held}
 use Rattle.glintstring.proofs.CheckCallLaws.{beyond-is}
@@ -152,6 +153,9 @@ module _ (x : Request) (room : List ℕ) (budget : ℕ) (a : Answer) where
 -- OF WHAT IS HELD, by the two walks of it: the second goes by notes with another mode.
 pub narrow-hand : (s t : List ℕ) → At-hand Flags s t → (u : List ℕ) → u ≡ set t mode-slot 2 → At-hand Flags s u
 narrow-hand s t here u put = rw put (hand-stays Flags s t 2 here)
+
+pub narrow-form : (s t : List ℕ) → At-hand Flags s t → length t ≡ slots → (u : List ℕ) → u ≡ set t mode-slot 2 → form-in u ≡ Flags
+narrow-form s t here sized u put = flags-mode u 2 (ap mode-in put ∙ new-mode Flags s t 2 sized) refl
 
 pub narrow-verified : (s t : List ℕ) (budget : ℕ) → guards-in s t ≡ [] → length t ≡ slots → (u : List ℕ) → u ≡ set t mode-slot 2 → (lent left : List ℕ) (v : Answer)
     → record { answer = v; state = left } ≡ within lent budget (walk-held Flags s u) → v .number ≡ 0 → Verified (narrow-walk-of format (request-in Flags s u))

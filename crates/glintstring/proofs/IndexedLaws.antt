@@ -38,11 +38,12 @@ use Rattle.finding.specs.declared.places.Found.the-variants.{Nowhere, At}
 use Rattle.finding.proofs.FoundLaws.{found-none, found-at}
 use Rattle.steps.specs.Held.{table-in, guards-in, request-in}
 use Rattle.steps.specs.AtHand.{At-hand}
-use Rattle.steps.specs.Steps.{mode-in, walk-held}
+use Rattle.steps.specs.Steps.{mode-in, form-in, walk-held}
 use Rattle.steps.proofs.ModeLaws.{held-known}
 use Rattle.indexing.specs.IndexNotes.{index-taken}
 use Rattle.indexing.proofs.BuildLaws.{index-short}
 use Rattle.indexing.proofs.TakenHand.{taken-mode, taken-request, taken-guards, taken-hand}
+use Rattle.verdicts.proofs.WalkedLaws.{plain-mode}
 use Rattle.glintstring.proofs.SettledAtHand.{settled-got, settled-at-hand, settled-held, settled-known, settled-table}
 use Rattle.glintstring.proofs.JudgingLaws.{Gives, held-table, judge-9, judge-refused, judge-walked}
 
@@ -107,6 +108,10 @@ module _ (s t u : List ℕ) (r : Passed) (settles : outcome r u ≡ noting (requ
     (i : List ℕ) (right : i ≡ index-of (table-in Flags s)) (w : List ℕ) (taken : w ≡ index-taken i 0 (table-in Flags s .actions) 0 0 0 u) where
   pub indexed-hand : At-hand Flags s w
   indexed-hand = rw taken (taken-hand s u (settled-table s t u r settles e passes bytes empty) i right (settled-at-hand s t u r settles e passes bytes empty))
+
+  pub indexed-form : form-in w ≡ Flags
+  indexed-form =
+      plain-mode w (ap mode-in taken ∙ taken-mode s u (settled-table s t u r settles e passes bytes empty) i right ∙ settled-known s t u r settles e passes bytes empty)
 
 -- THE INDEX CALL, by what was read. The count has room.
 pub length-fits : (s t : List ℕ) → Table-here Flags s t → (l : ℕ) → l ≡ length (index-of (table-in Flags s)) → l < 4294967296

@@ -1,5 +1,5 @@
--- What the walk call, the call by cases and the guarded call answer: another length than a state's, a refusal, or what the walk of the settled request says; and the line
--- that goes with it. Assumes nothing.
+-- What the walk call, the call by cases, the guarded call and the values call answer: another length than a state's, a refusal, or what the walk of the settled request says; and the line
+-- that goes with it, of all but the last. Assumes nothing.
 use Prim.Native.Nat.{ℕ}
 use native.Mathlib.Omega.{arith}
 use mathlib.Core.Path.{_≡_, refl, sym, _∙_, ap}
@@ -22,13 +22,15 @@ use Rattle.meaning.specs.ByCases
 use Rattle.meaning.specs.ByCases.{judge-by-cases, line-by-cases}
 use Rattle.meaning.specs.Guards
 use Rattle.meaning.specs.Guards.{Guarded-request, settled-guarded, judge-guarded, line-guarded}
+use Rattle.meaning.specs.Valued as Values
+use Rattle.meaning.specs.Valued.{settled-values, judge-values}
 use Rattle.meaning.specs.Asking.{line-told, line-got, line}
 use Rattle.meaning.proofs.TestLaws.{pick-true, pick-false}
 use Rattle.meaning.proofs.KeptEnds.{walked-unguarded}
 use Rattle.meaning.proofs.ReportedLine.{line-not}
 use Rattle.bytes.specs.declared.lists.Passed.{Passed}
 use Rattle.bytes.specs.declared.lists.Passed.the-variants.{To, Fault as Stop}
-use Rattle.meaning.specs.declared.Form.the-variants.{Flags}
+use Rattle.meaning.specs.declared.Form.the-variants.{Flags, Valued}
 use Rattle.reading.specs.Noted.{mode-slot, noting, outcome}
 use Rattle.reading.specs.Requested.{request-noted, guarded-noted}
 use Rattle.finding.specs.TablesHere.{blank}
@@ -36,7 +38,7 @@ use Rattle.reading.proofs.SectionLaws.{noting-fault}
 use Rattle.steps.specs.Held.{table-in, guards-in, request-in}
 use Rattle.steps.specs.Steps.{mode-in, walk-held}
 use Rattle.steps.proofs.ModeLaws.{held-known}
-use Rattle.glintstring.proofs.SettledAtHand.{settled-got, settled-held, settled-known, settled-unguarded, cases-walk, guarded-got, guarded-held, guarded-known, guards-held}
+use Rattle.glintstring.proofs.SettledAtHand.{settled-got, settled-held, settled-known, settled-unguarded, cases-walk, guarded-got, guarded-held, guarded-known, guards-held, values-got, values-walk}
 
 -- In mode 0 the walk of what is held, a request x with guards gs, is the walk of these.
 known-walk : (s u : List ℕ) (x : Request) (gs : List Entry) → mode-in u ≡ 0 → request-in Flags s u ≡ x → guards-in s u ≡ gs → walk-held Flags s u ≡ walked-guarded x gs (first-state format (x .table))
@@ -159,3 +161,24 @@ module _ (s lent : List ℕ) (budget : ℕ) (a : Answer) (v : ℕ) where
         call-judged guarded-noted (λ (g : Guarded-request). g .request .table) (settled-guarded format s) s lent (judge-got (Guards.walk-of format) lent budget) a v sized left (past .0) e (past .1)
         (walks ∙ ap (within lent budget) (known-walk s u (past .0 .request) (past .0 .guards) (guarded-known s t u r settles e passes bytes empty) held (guards-held s t u r settles e passes bytes empty)))
         (told ∙ ap (λ (w : Table). line-told w s (record { answer = a; state = left })) (held-table s u (past .0 .request) held))
+
+-- THE VALUES CALL.
+module _ (s lent : List ℕ) (budget : ℕ) (a : Answer) where
+  pub values-9 : (length lent ≡ format .state → ⊥) → a ≡ record { number = 9; input = 0; place = 0; count = 0 } → record { answer = a; state = lent } ≡ judge-values format s lent budget
+  unfolding judge-values
+  values-9 other is = call-9 (request-noted Valued) (λ (x : Request). x .table) (settled-values format s) s lent (judge-got (Values.walk-of format s) lent budget) a 0 other is refl .0
+
+  module _ (sized : length lent ≡ format .state) (t u : List ℕ) (r : Passed) (settles : outcome r u ≡ noting (request-noted Valued) (settled-values format s) t) where
+    pub values-refused : (k p : ℕ) → r ≡ Stop k p → a ≡ record { number = k; input = 1; place = p; count = 0 } → record { answer = a; state = lent } ≡ judge-values format s lent budget
+    unfolding judge-values judge-got
+    values-refused k p stops is =
+        call-refused (request-noted Valued) (λ (x : Request). x .table) (settled-values format s) s lent (judge-got (Values.walk-of format s) lent budget) a 0 sized t u r settles k p stops refl is refl .0
+
+    pub values-walked : (e : ℕ) → r ≡ To e → ((i : ℕ) → Fits w8 (getD s i 0)) → t ≡ blank → (w : List ℕ) → w ≡ set u mode-slot 3 → (left : List ℕ)
+        → record { answer = a; state = left } ≡ within lent budget (walk-held Valued s w) → record { answer = a; state = left } ≡ judge-values format s lent budget
+    unfolding judge-values judge-got
+    values-walked e passes bytes empty w put left walks =
+        let past = values-got s t u r settles e passes in
+        call-judged (request-noted Valued) (λ (x : Request). x .table) (settled-values format s) s lent (judge-got (Values.walk-of format s) lent budget) a
+        (line-told (past .0 .table) s (record { answer = a; state = left })) sized left (past .0) e (past .1)
+        (walks ∙ ap (within lent budget) (values-walk s t u r settles e passes bytes empty w put)) refl .0

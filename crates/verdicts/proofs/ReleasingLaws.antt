@@ -168,7 +168,7 @@ module _ (s t : List ℕ) (plans start : ℕ) (here : Opened-here s t plans star
   start-behind = let after = passed-by .behind in omega arith
 
   same-table : table-in Flags s ≡ here .opens .table
-  same-table = table-is s (here .opens .table) (here .opens .table-end) (passed-by .table)
+  same-table = table-is Flags s (here .opens .table) (here .opens .table-end) (passed-by .table)
 
   pub ends-there : table-at format Flags s 0 ≡ got (table-in Flags s) (start - 1)
   ends-there =
@@ -298,7 +298,7 @@ module _ (s t : List ℕ) (here : At-hand Flags s t) (items : ℕ) (is : items �
   pub plan-there : Some-plan Flags s t items
   plan-there = record { plan = plan-in Flags s t; held = here .held; items = counts-items }
 
-  module _ (f : Found) (answer : Overlap-found s t items f) (budget : ℕ) where
+  module _ (f : Found) (answer : Overlap-found Flags s t items f) (budget : ℕ) where
     overlap-is : f ≡ found (overlap-in (plan-in Flags s t))
     overlap-is = answer .holds (plan-in Flags s t) (here .held) counts-items
 
