@@ -99,6 +99,57 @@ walk-Inv-loop s t at tally₀ i₀ state₀ tally i state = Walking s t at state
 abbrev walk-μ-loop : walk-lts.MeasureT-loop
 walk-μ-loop s t at tally₀ i₀ state₀ tally i state = format .items - i
 
+-- src/walk.rt:195:9
+fork-loop-holds : (t : ℕ) → fork-lts.Need-loop-holds (
+  get-reads.Asked,
+  get-reads.Learnt,
+  wide-reads.Asked,
+  wide-reads.Learnt,
+  next-unknown-reads.Asked,
+  next-unknown-reads.Learnt,
+  fork-below t,
+  fork.Post,
+  has-more-reads.Asked,
+  has-more-reads.Learnt,
+  follow-reads.Asked,
+  follow-reads.Learnt,
+  walk-below t,
+  walk.Post,
+) (fork-at t) fork.Post fork-Inv-loop fork-μ-loop fork-Inv-loop2 fork-μ-loop2
+fork-loop-holds t c = search forking-starts
+
+-- src/walk.rt:195:9
+fork-loop-again : (t : ℕ) → fork-lts.Need-loop-again (
+  get-reads.Asked,
+  get-reads.Learnt,
+  wide-reads.Asked,
+  wide-reads.Learnt,
+  next-unknown-reads.Asked,
+  next-unknown-reads.Learnt,
+  fork-below t,
+  fork.Post,
+  has-more-reads.Asked,
+  has-more-reads.Learnt,
+  follow-reads.Asked,
+  follow-reads.Learnt,
+  walk-below t,
+  walk.Post,
+) (fork-at t) fork.Post fork-Inv-loop fork-μ-loop fork-Inv-loop2 fork-μ-loop2
+fork-loop-again t c = forking-forks _ _ _ _ _ (c .before .before .before .before .before .before .before .before .before .before .before .before .before .pre .1 .1 .1 .1 .0) _ _ _ _ (c .before .before .before .before .before .loop .inv) (c .before .before .before .before .loop-test .taken) _ _ (c .before .before .before .before .before .before .before .before .before .before .before .get .ensures) (c .before .before .before .before .before .before .before .before .before .wide .ensures) _ (c .before .before .before .before .before .before .before .next-unknown .ensures) _ _ (c .has-more .ensures) (c .before .before .before .before .before .before .if1 .taken) (c .before .before .fork .ensures)
+
+-- src/walk.rt:158:13
+walk-branching-returns-2 : (t : ℕ) → walk-branching-lts.Need-returns-2 (
+  chosen-reads.Asked,
+  chosen-reads.Learnt,
+  walk-below t,
+  walk.Post,
+  get-reads.Asked,
+  get-reads.Learnt,
+  note-reads.Asked,
+  note-reads.Learnt,
+) (walk-branching-at t) walk-branching.Post
+walk-branching-returns-2 t c = search none-taken
+
 pub +fork+walk+walk-branching-spec : {M : Type 1} → statement M
 +fork+walk+walk-branching-spec = close μ-fork μ-walk μ-walk-branching (λ t. fork-lts.spec (
   get-reads.Asked,
@@ -129,7 +180,7 @@ pub +fork+walk+walk-branching-spec : {M : Type 1} → statement M
     (λ c. search needs)
     (λ c. search needs)
     (λ c κs. (search needs, (search action-here, search fit-forgotten)))
-    (λ c. search forking-starts)
+    (fork-loop-holds t)
     (λ c. search needs)
     (λ c. search forking-fits)
     (λ c. search needs)
@@ -137,7 +188,7 @@ pub +fork+walk+walk-branching-spec : {M : Type 1} → statement M
     (λ c. search needs)
     (λ c κs. search needs)
     (λ c. search forking-less)
-    (λ c. forking-forks _ _ _ _ _ (c .before .before .before .before .before .before .before .before .before .before .before .before .before .pre .1 .1 .1 .1 .0) _ _ _ _ (c .before .before .before .before .before .loop .inv) (c .before .before .before .before .loop-test .taken) _ _ (c .before .before .before .before .before .before .before .before .before .before .before .get .ensures) (c .before .before .before .before .before .before .before .before .before .wide .ensures) _ (c .before .before .before .before .before .before .before .next-unknown .ensures) _ _ (c .has-more .ensures) (c .before .before .before .before .before .before .if1 .taken) (c .before .before .fork .ensures))
+    (fork-loop-again t)
     (λ c. search forking-ends)
     (λ c κs. search needs)
     (λ c. search forking-starts)
@@ -245,4 +296,4 @@ pub +fork+walk+walk-branching-spec : {M : Type 1} → statement M
     (λ c. search place-fits)
     (λ c κs. search place-there)
     (λ c κs. (search needs, (search marked-sized, (search (needs, notable), search item-fits))))
-    (λ c. search none-taken)
+    (walk-branching-returns-2 t)
