@@ -1,2 +1,2 @@
 // What actions do in a request with values.
-pub mod actions; // whether one can be run, and the state after it
+pub mod value_actions; // whether one can be run, and the state after it

@@ -15,7 +15,7 @@ use super::cases::Tried;
 use super::cases::after_cases;
 use super::cases::try_cases;
 use super::sensing::is_too_wide;
-use acting::actions;
+use acting::value_actions;
 use bytes::values::values_in;
 use meaning::Form;
 use reading::marks::Marks;
@@ -80,7 +80,7 @@ fn try_valued(s: &[u8], t: &Notes, a: usize, marks: &Marks) -> Tried
     requires { ⌜ Valued-marks (now s) (now marks) ⌝ }
     ensures { λ r. ⌜ does-as Valued (now (s .entry)) (now (t .entry)) a (now (marks .entry)) ≡ tries-as Valued (now (s .entry)) (now (t .entry)) a (now (marks .entry)) r ⌝ }
 {
-    let runs = actions::can_be_run(s, t, a, marks);
+    let runs = value_actions::can_be_run(s, t, a, marks);
     if runs {
         return Tried::Runs;
     }
@@ -139,7 +139,7 @@ pub fn after(form: Form, s: &[u8], t: &Notes, a: usize, marks: &Marks) -> Marks
 {
     match form {
         Form::Flags => after_flags(s, t, a, marks),
-        Form::Valued => actions::state_after(s, t, a, marks),
+        Form::Valued => value_actions::state_after(s, t, a, marks),
     }
 }
 

@@ -5,7 +5,7 @@ use Rattle.steps.proofs.trying.after.Statement.{statement}
 use Rattle.steps.proofs.trying.after.Tie as tie
 use Rattle.steps.proofs.trying.after.Reads as reads
 use Rattle.steps.proofs.trying.after.Lts as lts
-use Rattle.acting.proofs.actions.state_after.Reads as state-after-reads
+use Rattle.acting.proofs.value_actions.state_after.Reads as state-after-reads
 use Rattle.steps.proofs.trying.after_flags.Reads as after-flags-reads
 
 -- src/trying.rt:141:24

@@ -5,7 +5,7 @@ use Rattle.steps.proofs.trying.try_valued.Statement.{statement}
 use Rattle.steps.proofs.trying.try_valued.Tie as tie
 use Rattle.steps.proofs.trying.try_valued.Reads as reads
 use Rattle.steps.proofs.trying.try_valued.Lts as lts
-use Rattle.acting.proofs.actions.can_be_run.Reads as can-be-run-reads
+use Rattle.acting.proofs.value_actions.can_be_run.Reads as can-be-run-reads
 
 -- src/trying.rt:83:9
 can-be-run-requires : tie.Need-can-be-run-requires
