@@ -1,11 +1,11 @@
 /*
  * Glintstring: a proved verifier of conditional upgrade plans.
  *
- * A request has a domain table, a plan and goals in its bytes, a guarded request has guards behind these, a derivation has lines by
- * which the plan reaches its goals, a release file has many plans over one table, and an index says where the lines of each action stand
- * in a request; docs/FORMAT.md is the format, and numbers such as FORMAT 4.3 are those of its sentences. docs/STATEMENTS.md says what is
- * proved of each call. Link libglintstring.a, which `rt staticlib glintstring` writes for x86-64 Linux. C99 or later, or C++.
- * examples/c/review.c is a small program that uses all of it.
+ * A request has a domain table, a plan and goals in its bytes, a guarded request has guards behind these, a values request has fluents
+ * with 2 to 16 values each, a derivation has lines by which the plan reaches its goals, a release file has many plans over one table, and
+ * an index says where the lines of each action stand in a request; docs/FORMAT.md is the format, and numbers such as FORMAT 4.3 are those
+ * of its sentences. docs/STATEMENTS.md says what is proved of each call. Link libglintstring.a, which `rt staticlib glintstring` writes
+ * for x86-64 Linux. C99 or later, or C++. examples/c/review.c is a small program that uses all of it.
  */
 #ifndef GLINTSTRING_H
 #define GLINTSTRING_H
@@ -23,7 +23,7 @@ extern "C" {
 #define GLINTSTRING_VERSION_MINOR 3
 #define GLINTSTRING_VERSION_PATCH 0
 
-/* The length of the state that the walk call, the guarded call, the call by cases and the indexed call are lent. */
+/* The length of the state that the walk call, the guarded call, the call by cases, the indexed call and the values call are lent. */
 #define GLINTSTRING_STATE_LENGTH 128
 
 /* Guards that a guarded request may have. */
@@ -35,6 +35,9 @@ extern "C" {
 /* Unknown fluents that a sensing action may have where the derive call meets it (FORMAT 24.4). */
 #define GLINTSTRING_MOST_FORKED 6
 
+/* Values that a fluent of a values request may have; it has two at the least (FORMAT 26.1). */
+#define GLINTSTRING_MOST_VALUES 16
+
 /* Bytes that the index of a request may have (FORMAT 23.5): a room of so many is never too short. */
 #define GLINTSTRING_INDEX_MOST 1276
 
@@ -43,9 +46,9 @@ extern "C" {
 #define GLINTSTRING_ROW_NUMBERS 4
 
 /*
- * Bytes that each input may have; a guarded request or a release file may have as many as a request. One byte more is answered as any
- * longer input, so that no more of a file need be read. The derive call writes no derivation that is longer either: a room of
- * GLINTSTRING_DERIVATION_LIMIT bytes is as good as any.
+ * Bytes that each input may have; a guarded request, a values request or a release file may have as many as a request. One byte more is
+ * answered as any longer input, so that no more of a file need be read. The derive call writes no derivation that is longer either: a
+ * room of GLINTSTRING_DERIVATION_LIMIT bytes is as good as any.
  */
 #define GLINTSTRING_REQUEST_LIMIT 16384
 #define GLINTSTRING_DERIVATION_LIMIT 32768
@@ -53,7 +56,7 @@ extern "C" {
 /* Bytes of free stack that a call may need: 16 MiB (docs/MEASURED.md, for the calls that walk; the others need less). */
 #define GLINTSTRING_STACK_NEEDED 16777216
 
-/* The marks of a fluent in a state. */
+/* The marks of a fluent in a state. After the values call a fluent that is known to be v has v + 1 there, and unknown is 0 as well. */
 #define GLINTSTRING_UNKNOWN 0
 #define GLINTSTRING_TRUE 1
 #define GLINTSTRING_FALSE 2
@@ -65,12 +68,13 @@ extern "C" {
 #define GLINTSTRING_INDEX 3
 
 /*
- * The numbers of answers (FORMAT 4.3 to 4.25, 17.35, 17.36, 19.10, 21.10, 22.9, 23.8, 23.15 and 24.16 to 24.18), each with what its
+ * The numbers of answers (FORMAT 4.3 to 4.25, 17.35, 17.36, 19.10, 21.10, 22.9, 23.8, 23.15, 24.16 to 24.18 and 26.8), each with what its
  * place is. The walk call gives 0 to 3 and 9 to 21; of the calls that are like it the guarded call also gives 43, the call by cases also
- * 44, and the indexed call also 45. The index call gives 0, 10 to 21 and 39. The derivation call gives 0, 10 to 21 and 30 to 35, the
- * whether call 0, 10 to 21, 31 to 34 and 36. The derive call gives 0 to 3, 10 to 21, 30 and 37 to 39. The release call itself gives 0, 9
- * to 17 and 20, and to each plan 0 to 3, 11 to 15, 18, 19, 21 and 22. Of a derivation's faults 10 to 15 and 18 to 21 are told by the same
- * numbers as a request's: the answer names the input.
+ * 44, the indexed call also 45, and the values call also 46. The index call gives 0, 10 to 21 and 39. The derivation call gives 0, 10 to
+ * 21 and 30 to 35, the whether call 0, 10 to 21, 31 to 34 and 36. The derive call gives 0 to 3, 10 to 21, 30 and 37 to 39. The release
+ * call itself gives 0, 9 to 17 and 20, and to each plan 0 to 3, 11 to 15, 18, 19, 21 and 22. Of a derivation's faults 10 to 15 and 18 to
+ * 21 are told by the same numbers as a request's: the answer names the input. In a values request a literal has two bytes: 14, 15 and 46
+ * are placed at the first of them, and 13 at the one that is too large.
  */
 #define GLINTSTRING_VERIFIED 0                  /* the walk verifies the plan; place 0 */
 #define GLINTSTRING_ACCEPTED 0                  /* the derivation call, the whether call: the derivation is accepted; place 0 */
@@ -91,7 +95,8 @@ extern "C" {
 #define GLINTSTRING_COUNT_NOT_WITHIN_LIMITS 12  /* a count is not within its limits; the count */
 #define GLINTSTRING_TOO_LARGE 13                /* a byte is too large for its fluent, literal or action; that byte */
 #define GLINTSTRING_NOT_LARGER 14               /* a list's entry is not larger than its predecessor; that byte */
-#define GLINTSTRING_COMPLEMENT 15               /* a literal is its predecessor's complement; that byte */
+#define GLINTSTRING_COMPLEMENT 15               /* a literal is its predecessor's complement, or of a values request: it leaves its
+                                                   fluent no value, together with those before it in the list; that byte */
 #define GLINTSTRING_CONTRADICTORY 16            /* two effects are contradictory; the later, and of all such the earliest */
 #define GLINTSTRING_EFFECTS_AND_KNOWLEDGE 17    /* an action has effect lines and knowledge lines; the first such of the latter */
 #define GLINTSTRING_NOT_EXCLUSIVE 18            /* a branching has two conditions that are not exclusive; its byte 255 */
@@ -122,15 +127,16 @@ extern "C" {
                                                    fluents; that item */
 #define GLINTSTRING_INDEX_DIFFERS 45            /* the indexed call: the index is not that of the request; the first byte that
                                                    differs, or the shorter of both lengths where they are the same so far */
+#define GLINTSTRING_SAYS_IS_NOT 46              /* the values call: the literal of an effect says "is not"; its first byte */
 
 /*
  * An answer comes packed into one number: number + 2^8 * input + 2^16 * place + 2^32 * count. These take it apart.
  *
  * The place is the number of bytes that stand before it in its input. The count is that of the walk (actions run and end states judged)
- * for answers 0, 1, 2 and 43 of the walk call, the guarded call, the call by cases and the indexed call and for 1 and 2 of the derive
- * call, the budget for 3, the length of the index for 0 of the index call, that of the derivation for 0 of the derive call, and 0 for all
- * others, which 44, 45, an accepted derivation's 0 and the release call's own 0 are among. The answers in a row are not packed: there each
- * number has its place.
+ * for answers 0, 1, 2 and 43 of the walk call, the guarded call, the call by cases, the indexed call and the values call and for 1 and 2
+ * of the derive call, the budget for 3, the length of the index for 0 of the index call, that of the derivation for 0 of the derive call,
+ * and 0 for all others, which 44, 45, an accepted derivation's 0 and the release call's own 0 are among. The answers in a row are not
+ * packed: there each number has its place.
  */
 static inline uint8_t glintstring_number(uint64_t answer) { return (uint8_t)(answer & 255u); }
 static inline uint8_t glintstring_input(uint64_t answer) { return (uint8_t)((answer >> 8) & 255u); }
@@ -176,6 +182,7 @@ static inline const char *glintstring_words(unsigned number) {
     case GLINTSTRING_GUARD_BROKEN: return "guard broken";
     case GLINTSTRING_TOO_MANY_CASES: return "too many cases";
     case GLINTSTRING_INDEX_DIFFERS: return "index differs";
+    case GLINTSTRING_SAYS_IS_NOT: return "effect that says is not";
     default: return "no answer that the format has";
     }
 }
@@ -305,6 +312,29 @@ uint64_t glintstring_index(const uint8_t *request, size_t request_length, uint8_
  */
 uint64_t glintstring_judge_indexed(const uint8_t *request, size_t request_length, const uint8_t *index, size_t index_length,
                                    uint8_t *state, size_t state_length, uint32_t budget);
+
+/*
+ * The values call: walks the plan of a values request, in which each fluent has 2 to 16 values, known by the numbers from 0 up. Such a
+ * request has the eight sections of a request. In the first of them the fluent count is followed by a byte for each fluent, the number of
+ * its values (FORMAT 26.2). A literal has two bytes, a fluent f and then 2v for "f is v" or 2v+1 for "f is not v" (FORMAT 26.5), and a
+ * fluent of a knowledge line or of the whether list has one byte as ever.
+ *
+ * Promise (proved): for every request, lent state and budget the call ends, and its answer and the lent bytes afterwards are those of
+ * the format, each to the last number and byte. Any bytes may be given, of any length; a caller need not have tested anything. The walk
+ * is that of glintstring_judge over states that know one value of a fluent or none: a sensing action leads to a state for each value of
+ * each unknown fluent that it senses. Where the answer is 0, the plan can be carried out, and reaches its goals, from every world that
+ * gives each fluent one of its values and has the initial facts.
+ *
+ * An effect whose literal says "is not" is refused by 46, at the literal's first byte. Every other refusal has a number that
+ * glintstring_judge gives too. A partial state does not know what a fluent is not: a fluent of three values of which only "is not 0" is
+ * said is unknown, and a goal that says the same is missed (FORMAT 26.17 and 26.18).
+ *
+ * The lent state is written by answers 1 and 2 and by no other. Byte f is then 0 where fluent f is unknown, and v + 1 where it is known to
+ * be v, in the state that the answer is about, as with glintstring_judge. Bytes from the request's number of fluents up to 127 are then 0.
+ * Nothing in the bytes says whether a request is a values request: the other calls take none. The caller sees to the same as for
+ * glintstring_judge, and the call keeps nothing either.
+ */
+uint64_t glintstring_judge_values(const uint8_t *request, size_t request_length, uint8_t *state, size_t state_length, uint32_t budget);
 
 /*
  * The derivation call: checks a derivation, line by line, of what a request asks.

@@ -80,7 +80,7 @@ answered() { # STATUS
     *) fail "the program ended with status $1" ;;
     esac
     [ -n "$answer" ] || exit 2
-    [[ $answer =~ ^[0-9]+\ [0-9]+\ [0-9]+($'\n'[-+?]+)?($'\n'[0-9]+)?($'\n'[0-9]+\ [0-9]+\ [0-9]+\ [0-9]+)*$ ]] || fail 'what the program printed is no answer'
+    [[ $answer =~ ^[0-9]+\ [0-9]+\ [0-9]+($'\n'[-+?]+|$'\n'[0-9?]+(\ [0-9?]+)*)?($'\n'[0-9]+)?($'\n'[0-9]+\ [0-9]+\ [0-9]+\ [0-9]+)*$ ]] || fail 'what the program printed is no answer'
 }
 
 # The status that an answer has.

@@ -4,6 +4,7 @@
  *   review judge [--line] [--budget N] REQUEST...           (100,000 unless told otherwise)
  *   review judge-guarded [--budget N] REQUEST...
  *   review judge-by-cases [--budget N] REQUEST...
+ *   review judge-values [--budget N] REQUEST...
  *   review index REQUEST...
  *   review judge-indexed [--budget N] REQUEST INDEX [REQUEST INDEX]...
  *   review derive [--budget N] REQUEST...
@@ -14,10 +15,10 @@
  * `check` and `check-whether` do not walk the plan: a derivation may be accepted where every budget is spent. The second takes requests
  * with whether entries too, and derivations in the closing layout. With `--line` a walk that an action stops also says which executability line
  * of it was missing. `judge-guarded` takes guarded requests, whose guards are to be known true all the way. `judge-by-cases` tries each action in every
- * filling of what is unknown. `index` says how the index of each request begins, and `judge-indexed` walks by an index, which the program `index` has
- * written to a file. `derive` walks too, and says how the derivation of each request begins, which the program `derive` writes to a file. `release` takes release
- * files, each with many plans over one table, and has a line for each plan. The exit status is 0 where each plan is verified, each derivation accepted or written
- * or each request indexed, 1 where some answer is another, and 2 where something can't be read or written.
+ * filling of what is unknown. `judge-values` takes values requests, whose fluents have 2 to 16 values each. `index` says how the index of each request begins, and
+ * `judge-indexed` walks by an index, which the program `index` has written to a file. `derive` walks too, and says how the derivation of each request begins, which
+ * the program `derive` writes to a file. `release` takes release files, each with many plans over one table, and has a line for each plan. The exit status is 0 where
+ * each plan is verified, each derivation accepted or written or each request indexed, 1 where some answer is another, and 2 where something can't be read or written.
  */
 #define _POSIX_C_SOURCE 200809L
 #include <errno.h>
@@ -50,16 +51,43 @@ static void show(const char *what, const struct input *input, size_t start) {
     puts(start == input->length ? " it ends there" : i < input->length ? " ..." : "");
 }
 
+/* A state as it is printed: its marks, or the values that are known. A request that was walked starts with its number of fluents. */
+typedef void print_state(const uint8_t *state, size_t fluents);
+
+static void print_marks(const uint8_t *state, size_t fluents) {
+    size_t f;
+    printf("  state ");
+    for (f = 0; f < fluents; f++)
+        putchar(state[f] == GLINTSTRING_TRUE ? '+' : state[f] == GLINTSTRING_FALSE ? '-' : '?');
+    putchar('\n');
+}
+
+static void print_values(const uint8_t *state, size_t fluents) {
+    size_t f;
+    printf("  state");
+    for (f = 0; f < fluents; f++)
+        if (state[f] == GLINTSTRING_UNKNOWN)
+            printf(" ?");
+        else
+            printf(" %d", state[f] - 1);
+    putchar('\n');
+}
+
+/* The state that a call was lent, and how it is printed. */
+struct lent {
+    const uint8_t *state;
+    print_state *print;
+};
+
 /*
  * Prints the words, which are these for number 0, the numbers, the state that answers 1, 2 and 43 wrote, and the bytes at the place. `second` is the derivation or
- * the index, or null where there is neither, and `state` is null where none was lent.
+ * the index, or null where there is neither, and `lent` is null where no state was lent.
  */
-static int tell(uint64_t answer, const char *zero, const struct input *request, const struct input *second, const uint8_t *state) {
+static int tell(uint64_t answer, const char *zero, const struct input *request, const struct input *second, const struct lent *lent) {
     static const struct input none = {"", NULL, 0};
     static const char *const kinds[] = {"", "request", "derivation", "index"};
     const struct input *other = second ? second : &none;
     const uint8_t number = glintstring_number(answer), input = glintstring_input(answer);
-    size_t i;
 
     if (second)
         printf("%s with %s: ", request->name, second->name);
@@ -67,12 +95,8 @@ static int tell(uint64_t answer, const char *zero, const struct input *request, 
         printf("%s: ", request->name);
     puts(number == GLINTSTRING_VERIFIED ? zero : glintstring_words(number));
     printf("  number %u, place %u, count %lu\n", number, glintstring_place(answer), (unsigned long)glintstring_count(answer));
-    if (state && (number == GLINTSTRING_GOAL_MISSED || number == GLINTSTRING_NOT_EXECUTABLE || number == GLINTSTRING_GUARD_BROKEN)) {
-        printf("  state ");
-        for (i = 0; i < request->bytes[0]; i++) /* a request that was walked starts with its number of fluents */
-            putchar(state[i] == GLINTSTRING_TRUE ? '+' : state[i] == GLINTSTRING_FALSE ? '-' : '?');
-        putchar('\n');
-    }
+    if (lent && (number == GLINTSTRING_GOAL_MISSED || number == GLINTSTRING_NOT_EXECUTABLE || number == GLINTSTRING_GUARD_BROKEN))
+        lent->print(lent->state, request->bytes[0]);
     if (input == GLINTSTRING_INDEX) /* which the showing call does not know */
         show(kinds[input], other, glintstring_place(answer));
     else if (input != GLINTSTRING_NEITHER)
@@ -117,12 +141,13 @@ static const char *verified(void) { return glintstring_words(GLINTSTRING_VERIFIE
 
 static int judge_line(const char *name, uint32_t budget, int lined) {
     uint8_t state[GLINTSTRING_STATE_LENGTH] = {0};
+    const struct lent lent = {state, print_marks};
     uint32_t line;
     struct input request;
     int status = read_input(name, GLINTSTRING_REQUEST_LIMIT, &request);
     if (status == GOOD) {
         const uint64_t answer = glintstring_judge_line(request.bytes, request.length, state, sizeof state, budget, &line);
-        status = tell(answer, verified(), &request, NULL, state);
+        status = tell(answer, verified(), &request, NULL, &lent);
         if (lined)
             tell_line(&request, line);
     }
@@ -130,16 +155,17 @@ static int judge_line(const char *name, uint32_t budget, int lined) {
     return status;
 }
 
-/* The guarded call or the call by cases. */
+/* The guarded call, the call by cases or the values call. */
 typedef uint64_t walking_call(const uint8_t *request, size_t request_length, uint8_t *state, size_t state_length, uint32_t budget);
 
 /* The same by another call. */
-static int judge_by(walking_call *call, const char *name, uint32_t budget) {
+static int judge_by(walking_call *call, print_state *print, const char *name, uint32_t budget) {
     uint8_t state[GLINTSTRING_STATE_LENGTH] = {0};
+    const struct lent lent = {state, print};
     struct input request;
     int status = read_input(name, GLINTSTRING_REQUEST_LIMIT, &request);
     if (status == GOOD)
-        status = tell(call(request.bytes, request.length, state, sizeof state, budget), verified(), &request, NULL, state);
+        status = tell(call(request.bytes, request.length, state, sizeof state, budget), verified(), &request, NULL, &lent);
     free(request.bytes);
     return status;
 }
@@ -147,8 +173,9 @@ static int judge_by(walking_call *call, const char *name, uint32_t budget) {
 /* What a command does for the files of one answer, which are one or two. */
 static int judge(char **names, uint32_t budget) { return judge_line(names[0], budget, 0); }
 static int judge_and_line(char **names, uint32_t budget) { return judge_line(names[0], budget, 1); }
-static int judge_guarded(char **names, uint32_t budget) { return judge_by(glintstring_judge_guarded, names[0], budget); }
-static int judge_by_cases(char **names, uint32_t budget) { return judge_by(glintstring_judge_by_cases, names[0], budget); }
+static int judge_guarded(char **names, uint32_t budget) { return judge_by(glintstring_judge_guarded, print_marks, names[0], budget); }
+static int judge_by_cases(char **names, uint32_t budget) { return judge_by(glintstring_judge_by_cases, print_marks, names[0], budget); }
+static int judge_values(char **names, uint32_t budget) { return judge_by(glintstring_judge_values, print_values, names[0], budget); }
 
 /* Prints what a call that writes to a room answers, and how what it wrote begins. */
 static int tell_written(uint64_t answer, const char *zero, const char *what, const struct input *request, uint8_t *room) {
@@ -190,12 +217,13 @@ static int read_both(char **names, struct input *request, size_t limit, struct i
 
 static int judge_indexed(char **names, uint32_t budget) {
     uint8_t state[GLINTSTRING_STATE_LENGTH] = {0};
+    const struct lent lent = {state, print_marks};
     struct input request, index;
     int status = read_both(names, &request, GLINTSTRING_INDEX_MOST, &index);
     if (status == GOOD) {
         const uint64_t answer =
             glintstring_judge_indexed(request.bytes, request.length, index.bytes, index.length, state, sizeof state, budget);
-        status = tell(answer, verified(), &request, &index, state);
+        status = tell(answer, verified(), &request, &index, &lent);
     }
     free(request.bytes);
     free(index.bytes);
@@ -256,6 +284,7 @@ static const struct command {
     {"judge", 1, 1, judge},
     {"judge-guarded", 1, 1, judge_guarded},
     {"judge-by-cases", 1, 1, judge_by_cases},
+    {"judge-values", 1, 1, judge_values},
     {"index", 1, 0, build_index},
     {"judge-indexed", 2, 1, judge_indexed},
     {"derive", 1, 1, derive},
@@ -276,7 +305,7 @@ static int is_budget(const char *word, uint32_t *budget) {
 
 static int usage(void) {
     fputs("usage: review judge [--line] [--budget N] REQUEST... | review judge-guarded [--budget N] REQUEST... | "
-          "review judge-by-cases [--budget N] REQUEST... | review index REQUEST... | "
+          "review judge-by-cases [--budget N] REQUEST... | review judge-values [--budget N] REQUEST... | review index REQUEST... | "
           "review judge-indexed [--budget N] REQUEST INDEX [REQUEST INDEX]... | review derive [--budget N] REQUEST... | "
           "review check REQUEST DERIVATION [REQUEST DERIVATION]... | "
           "review check-whether REQUEST DERIVATION [REQUEST DERIVATION]... | review release [--budget N] FILE...\n",

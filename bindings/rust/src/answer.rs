@@ -1,8 +1,8 @@
-//! Answers with the format's names (docs/FORMAT.md, sections 4, 17 and 21 to 24).
+//! Answers with the format's names (docs/FORMAT.md, sections 4, 17, 21 to 24 and 26).
 
 use std::{error, fmt};
 
-use crate::{INDEX_MOST, STATE_LENGTH};
+use crate::{Values, INDEX_MOST, STATE_LENGTH};
 
 /// An answer packed into one number: number + 2^8 * input + 2^16 * place + 2^32 * count.
 #[must_use = "only number 0 lets a plan pass"]
@@ -110,17 +110,17 @@ impl State {
     }
 }
 
-/// An answer of the walk call, the guarded call, the call by cases, the indexed call, the derivation call or the whether call, or what the release call says of
-/// its file as a whole, or another answer of the index call than 0, or one by which the derive call refuses. A place is the number of bytes that stand before it
-/// in its input: the derivation for 31 to 36, the index for 45, the request or the derivation where the answer says which, and the request for all others. To
-/// the release call its file is the request.
+/// An answer of the walk call, the guarded call, the call by cases, the indexed call, the values call, the derivation call or the whether call, or what the
+/// release call says of its file as a whole, or another answer of the index call than 0, or one by which the derive call refuses. A place is the number of bytes
+/// that stand before it in its input: the derivation for 31 to 36, the index for 45, the request or the derivation where the answer says which, and the request
+/// for all others. To the release call its file is the request.
 ///
 /// A number keeps its meaning from one version to the next, and a version may have numbers that the one before did not.
 #[must_use = "an answer other than 0 says that the plan is not to pass: see `is_verified` and `verified`"]
 #[non_exhaustive]
 #[derive(Clone, Copy, Debug, PartialEq, Eq, Hash)]
 pub enum Answer {
-    /// 0 of the walk call, of the guarded call, of the call by cases and of the indexed call: the walk verifies the plan.
+    /// 0 of the walk call, of the guarded call, of the call by cases, of the indexed call and of the values call: the walk verifies the plan.
     Verified {
         /// Actions run and end states judged.
         count: u32,
@@ -144,6 +144,24 @@ pub enum Answer {
         count: u32,
         /// The state in which it could not be run.
         state: State,
+    },
+    /// 1 of the values call: the same as [`Answer::GoalMissed`], with values in the state.
+    GoalMissedWithValues {
+        /// The first entry missed in the first end state that misses any.
+        place: usize,
+        /// Actions run and end states judged.
+        count: u32,
+        /// That end state.
+        values: Values,
+    },
+    /// 2 of the values call: the same as [`Answer::NotExecutable`], with values in the state.
+    NotExecutableWithValues {
+        /// That item.
+        place: usize,
+        /// Actions run and end states judged before it.
+        count: u32,
+        /// The state in which it could not be run.
+        values: Values,
     },
     /// 3: the walk counts to more than the budget.
     BudgetSpent {
@@ -172,7 +190,7 @@ pub enum Answer {
         /// The count's byte.
         place: usize,
     },
-    /// 13: a byte is too large for the fluent, literal or action it stands for.
+    /// 13: a byte is too large for the fluent, literal, value or action it stands for.
     TooLarge {
         /// The one that has it.
         input: Input,
@@ -186,7 +204,7 @@ pub enum Answer {
         /// That byte.
         place: usize,
     },
-    /// 15: an entry of a list of literals is its predecessor's complement.
+    /// 15: an entry of a list of literals is its predecessor's complement, or of a values request: with those before it, it leaves its fluent no value.
     Complement {
         /// The one that has it.
         input: Input,
@@ -295,6 +313,11 @@ pub enum Answer {
     /// 45 of the indexed call: the index is not that of the request.
     IndexDiffers {
         /// The first byte that differs, or the shorter of both lengths where they are the same so far.
+        place: usize,
+    },
+    /// 46 of the values call: the literal of an effect says "is not", and not which value its fluent gets.
+    SaysIsNot {
+        /// The first byte of that literal.
         place: usize,
     },
 }
@@ -476,8 +499,8 @@ impl Answer {
     pub fn number(&self) -> u8 {
         match self {
             Answer::Verified { .. } | Answer::Accepted => 0,
-            Answer::GoalMissed { .. } => 1,
-            Answer::NotExecutable { .. } => 2,
+            Answer::GoalMissed { .. } | Answer::GoalMissedWithValues { .. } => 1,
+            Answer::NotExecutable { .. } | Answer::NotExecutableWithValues { .. } => 2,
             Answer::BudgetSpent { .. } => 3,
             Answer::StateLength => 9,
             Answer::TooLong { .. } => 10,
@@ -505,6 +528,7 @@ impl Answer {
             Answer::GuardBroken { .. } => 43,
             Answer::TooManyCases { .. } => 44,
             Answer::IndexDiffers { .. } => 45,
+            Answer::SaysIsNot { .. } => 46,
         }
     }
 
@@ -539,8 +563,11 @@ impl Answer {
             | Answer::TooManyItems { input, .. } => Some(input),
             Answer::GoalMissed { .. }
             | Answer::NotExecutable { .. }
+            | Answer::GoalMissedWithValues { .. }
+            | Answer::NotExecutableWithValues { .. }
             | Answer::GuardBroken { .. }
             | Answer::TooManyCases { .. }
+            | Answer::SaysIsNot { .. }
             | Answer::Contradictory { .. }
             | Answer::EffectsAndKnowledge { .. }
             | Answer::WhetherAsked { .. }
@@ -567,8 +594,11 @@ impl Answer {
             | Answer::TooLong { .. } => 0,
             Answer::GoalMissed { place, .. }
             | Answer::NotExecutable { place, .. }
+            | Answer::GoalMissedWithValues { place, .. }
+            | Answer::NotExecutableWithValues { place, .. }
             | Answer::GuardBroken { place, .. }
             | Answer::TooManyCases { place }
+            | Answer::SaysIsNot { place }
             | Answer::IndexDiffers { place }
             | Answer::InputEnds { place, .. }
             | Answer::CountNotWithinLimits { place, .. }
@@ -597,15 +627,24 @@ impl Answer {
         match *self {
             Answer::Verified { count } => count,
             Answer::GoalMissed { count, .. } | Answer::NotExecutable { count, .. } | Answer::GuardBroken { count, .. } => count,
+            Answer::GoalMissedWithValues { count, .. } | Answer::NotExecutableWithValues { count, .. } => count,
             Answer::BudgetSpent { budget } => budget,
             _ => 0,
         }
     }
 
-    /// The state that goes with answers 1, 2 and 43.
+    /// The state that goes with answers 1, 2 and 43, of every call but the values call.
     pub fn state(&self) -> Option<&State> {
         match self {
             Answer::GoalMissed { state, .. } | Answer::NotExecutable { state, .. } | Answer::GuardBroken { state, .. } => Some(state),
+            _ => None,
+        }
+    }
+
+    /// The state that goes with answers 1 and 2 of the values call.
+    pub fn values(&self) -> Option<&Values> {
+        match self {
+            Answer::GoalMissedWithValues { values, .. } | Answer::NotExecutableWithValues { values, .. } => Some(values),
             _ => None,
         }
     }
@@ -653,6 +692,7 @@ pub(crate) fn words_of(number: u8) -> &'static str {
         43 => "guard broken",
         44 => "too many cases",
         45 => "index differs",
+        46 => "effect that says is not",
         _ => "no answer that the format has",
     }
 }

@@ -4,10 +4,11 @@
 //! answers; that its answer, the state in it included, is that of the definition is proved, for every request and budget
 //! (docs/STATEMENTS.md). [`judge_guarded`] walks the plan of a guarded request, whose guards are to be known true all the way, [`judge_by_cases`] walks a
 //! plan with each action tried in every filling of what is unknown, [`judge_indexed`] walks one by an index, which [`index`] writes and which says where the
-//! lines of each action stand, [`check`] checks a derivation, lines by which the plan reaches its goals, [`check_whether`] one that also says of fluents that
-//! they are known in the end, [`derive`](fn@derive) walks a plan and gives a derivation that [`check`] accepts, [`release`] walks every plan of a release file,
-//! which has many plans over one table, and [`show`] gives the part of an input that an answer is about; of these the same is proved. This crate adds names to the
-//! numbers and proves nothing. `examples/rust` of the repository is a small program that uses it.
+//! lines of each action stand, [`judge_values`] walks the plan of a values request, whose fluents have 2 to 16 values each, [`check`] checks a derivation, lines
+//! by which the plan reaches its goals, [`check_whether`] one that also says of fluents that they are known in the end, [`derive`](fn@derive) walks a plan and
+//! gives a derivation that [`check`] accepts, [`release`] walks every plan of a release file, which has many plans over one table, and [`show`] gives the part of
+//! an input that an answer is about; of these the same is proved. This crate adds names to the numbers and proves nothing. `examples/rust` of the repository is a
+//! small program that uses it.
 //!
 //! ```
 //! use glintstring::{judge, Answer, Input};
@@ -34,9 +35,9 @@
 //!
 //! A walk may need as much as [`STACK_NEEDED`] bytes of stack, more than the 2 MiB that a thread in Rust gets, and more than the 8 MiB that the
 //! first thread of a process has as a rule; the request decides how much. [`judge`], [`judge_line`], [`judge_guarded`], [`judge_by_cases`], [`judge_indexed`],
-//! [`derive`](fn@derive) and [`release`] see to that: they walk on a thread of their own. A [`Judge`] keeps such a thread for many calls. Those of these with
-//! `_here` or `_packed` in their names walk on the caller's stack, and a walk that has too little of it is ended by the system, and the process with it.
-//! [`index`], [`check`], [`check_whether`], [`plans`] and [`show`] need far less, whatever their inputs, and a thread's 2 MiB will do.
+//! [`judge_values`], [`derive`](fn@derive) and [`release`] see to that: they walk on a thread of their own. A [`Judge`] keeps such a thread for many calls. Those
+//! of these with `_here` or `_packed` in their names walk on the caller's stack, and a walk that has too little of it is ended by the system, and the process with
+//! it. [`index`], [`check`], [`check_whether`], [`plans`] and [`show`] need far less, whatever their inputs, and a thread's 2 MiB will do.
 //!
 //! # The library
 //!
@@ -50,16 +51,18 @@ mod answer;
 mod derived;
 mod released;
 mod serving;
+mod values;
 
 pub use answer::{Answer, Input, Judged, Mark, NotIndexed, NotVerified, Packed, State};
 pub use derived::NotDerived;
 pub use released::{NotReleased, PlanAnswer, Released};
 pub use serving::Judge;
+pub use values::Values;
 
 use std::{io, thread};
 
-/// The length of the lent state that [`judge_packed`], [`judge_guarded_packed`], [`judge_by_cases_packed`] and [`judge_indexed_packed`] take, which is the
-/// number of marks in a [`State`].
+/// The length of the lent state that [`judge_packed`], [`judge_guarded_packed`], [`judge_by_cases_packed`], [`judge_indexed_packed`] and
+/// [`judge_values_packed`] take, which is the number of marks in a [`State`].
 pub const STATE_LENGTH: usize = 128;
 
 /// Guards that a guarded request may have.
@@ -71,6 +74,9 @@ pub const MOST_OPEN: usize = 12;
 /// Unknown fluents that a sensing action may have where the derive call meets it (FORMAT 24.4).
 pub const MOST_FORKED: usize = 6;
 
+/// Values that a fluent of a values request may have; it has two at the least (FORMAT 26.1).
+pub const MOST_VALUES: usize = 16;
+
 /// Bytes that the index of a request may have (FORMAT 23.5): a room of so many is never too short. Of a file that has an index one byte more need be read, and
 /// what stands behind that changes no answer.
 pub const INDEX_MOST: usize = 1_276;
@@ -81,7 +87,8 @@ pub const MOST_PLANS: usize = 64;
 /// Numbers that the lent row of [`release_packed`] has for each plan: number, place, count and input.
 pub const ROW_NUMBERS: usize = 4;
 
-/// Bytes that a request, a guarded request or a release file may have. One byte more is answered as any longer one, so that no more of a file need be read.
+/// Bytes that a request, a guarded request, a values request or a release file may have. One byte more is answered as any longer one, so that no more of a file
+/// need be read.
 pub const REQUEST_LIMIT: usize = 16_384;
 
 /// Bytes that a derivation may have, in the same way. [`derive_packed`] writes none that is longer: a room of so many bytes is as good as any.
@@ -107,6 +114,7 @@ extern "C" {
         state_length: usize,
         budget: u32,
     ) -> u64;
+    fn glintstring_judge_values(request: *const u8, request_length: usize, state: *mut u8, state_length: usize, budget: u32) -> u64;
     fn glintstring_index(request: *const u8, request_length: usize, room: *mut u8, room_length: usize) -> u64;
     fn glintstring_judge_line(request: *const u8, request_length: usize, state: *mut u8, state_length: usize, budget: u32, line: *mut u32) -> u64;
     fn glintstring_check(request: *const u8, request_length: usize, derivation: *const u8, derivation_length: usize) -> u64;
@@ -421,6 +429,58 @@ walking_call! {
     /// assert_eq!((packed.number(), packed.input(), packed.place(), packed.count()), (45, 3, 2, 0));
     /// ```
     judge_indexed_packed;
+}
+
+walking_call! {
+    glintstring_judge_values(request), Answer::unpack_values;
+
+    /// The values call: judges a values request by walking its plan, with a count of at most `budget`.
+    ///
+    /// In a values request each fluent has 2 to [`MOST_VALUES`] values, known by the numbers from 0 up: the fluent count is followed by a byte for each fluent,
+    /// the number of its values. A literal has two bytes, a fluent f and then 2v for "f is v" or 2v+1 for "f is not v" (FORMAT 26.2 and 26.5). A state knows one
+    /// value of a fluent or none, and a sensing action leads to a state for each value of each unknown fluent that it senses. An effect that says "is not" is
+    /// refused by [`Answer::SaysIsNot`]; all else is answered as [`judge`] answers, but [`Answer::GoalMissedWithValues`] and
+    /// [`Answer::NotExecutableWithValues`] have [`Values`] in them. Any bytes may be given, of any length. The walk runs on a thread of its own that has enough
+    /// stack, and the caller waits for it; for many calls a [`Judge`] keeps one.
+    ///
+    /// ```
+    /// use glintstring::{judge_values, show, Answer};
+    ///
+    /// # fn main() -> std::io::Result<()> {
+    /// // A traffic light with three colours, of which nothing is known, and an action that looks at it. The plan is that action.
+    /// let look = [1, 3, 1, 0, 0, 1, 0, 0, 1, 0, 0, 0, 1, 0];
+    /// // Afterwards its colour is known, whichever it is. But it need not be the first one.
+    /// let (whether, first) = ([&look[..], &[0, 1, 0]].concat(), [&look[..], &[1, 0, 0, 0]].concat());
+    /// assert_eq!(judge_values(&whether, 100)?, Answer::Verified { count: 4 });
+    /// let answer = judge_values(&first, 100)?;
+    /// let Answer::GoalMissedWithValues { place, count, values } = answer else { panic!("{answer}") };
+    /// assert_eq!((place, count, values.value(0)), (15, 4, Some(1)));
+    /// assert_eq!(show(answer, &first, &[]), [0, 0, 0]);
+    ///
+    /// // An effect that says that fluent 0 is not 1.
+    /// assert_eq!(judge_values(&[1, 3, 1, 0, 1, 0, 0, 3], 100)?, Answer::SaysIsNot { place: 6 });
+    /// # Ok(())
+    /// # }
+    /// ```
+    judge_values;
+
+    /// [`judge_values`] on the caller's own stack, as [`judge_here`] is [`judge`].
+    judge_values_here;
+
+    /// The values call as it is exported: the same as [`judge_values_here`], with a lent state, and with the answer packed into one number.
+    ///
+    /// After answers 1 and 2 the lent bytes are the state concerned, which [`Values::from_bytes`] reads; after every other answer, 46 too, they are what
+    /// they were. Where there are not [`STATE_LENGTH`] of them, the answer is 9.
+    ///
+    /// ```
+    /// // One fluent with three values, known to be 2, one action and an empty plan; the goal is that the fluent is 1.
+    /// let request = [1, 3, 1, 1, 0, 4, 0, 0, 0, 0, 0, 1, 0, 2, 0];
+    /// let mut lent = [9; 128];
+    /// let packed = glintstring::judge_values_packed(&request, &mut lent, 1);
+    /// assert_eq!((packed.number(), packed.input(), packed.place(), packed.count()), (1, 1, 12, 1));
+    /// assert_eq!(lent[..2], [3, 0]);
+    /// ```
+    judge_values_packed;
 }
 
 /// The index call: the index of a request, which says where the lines of each action stand in it.

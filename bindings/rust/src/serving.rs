@@ -3,7 +3,8 @@
 use std::sync::mpsc::{channel, Sender};
 use std::{fmt, io, thread};
 
-use crate::{derive_room, judge_by_cases_packed, judge_guarded_packed, judge_indexed_packed, judge_line_packed, judge_packed, release_row};
+use crate::{derive_room, judge_by_cases_packed, judge_guarded_packed, judge_indexed_packed, judge_line_packed, judge_packed};
+use crate::{judge_values_packed, release_row};
 use crate::{Answer, Judged, NotDerived, Packed, Released, INDEX_MOST, REQUEST_LIMIT, STACK, STATE_LENGTH};
 
 /// A thread with enough stack for a walk, which is started once and serves many calls, one after the other.
@@ -110,6 +111,15 @@ impl Judge {
         let index = copied(index, INDEX_MOST);
         let call = move |request: &[u8], state: &mut [u8], budget| judge_indexed_packed(request, &index, state, budget);
         self.walk(request, budget, call, Answer::unpack_indexed)
+    }
+
+    /// The values call, as [`judge_values`](crate::judge_values) makes it: judges a values request.
+    ///
+    /// # Panics
+    ///
+    /// As [`Judge::judge`] does.
+    pub fn judge_values(&mut self, request: &[u8], budget: u32) -> Answer {
+        self.walk(request, budget, judge_values_packed, Answer::unpack_values)
     }
 
     /// The derive call, as [`derive`](crate::derive) makes it: gives a derivation of what a request asks.

@@ -223,6 +223,7 @@ fn zero_alone_is_verified() {
     assert!(!Answer::unpack_guarded(Packed(43 + (1 << 8)), &[0; STATE_LENGTH]).is_verified());
     assert!(!Answer::unpack_by_cases(Packed(44 + (1 << 8)), &[0; STATE_LENGTH]).is_verified());
     assert!(!Answer::unpack_indexed(Packed(45 + (3 << 8)), &[0; STATE_LENGTH]).is_verified());
+    assert!(!Answer::unpack_values(Packed(46 + (1 << 8)), &[0; STATE_LENGTH]).is_verified());
 }
 
 #[test]
@@ -284,6 +285,7 @@ fn what_is_no_answer_is_refused() {
     refuses_what_is_no_answer(Answer::unpack_guarded, Some((43, 1, true)));
     refuses_what_is_no_answer(Answer::unpack_by_cases, Some((44, 1, false)));
     refuses_what_is_no_answer(Answer::unpack_indexed, Some((45, 3, false)));
+    refuses_what_is_no_answer(Answer::unpack_values, Some((46, 1, false)));
 }
 
 #[test]

@@ -2,7 +2,7 @@
 //! length from 0 to 258. Lent rooms of every length are in `indexes.rs` and `derivations.rs`.
 
 use glintstring::{check_packed, check_whether_packed, derive_packed, index, judge_by_cases_packed, judge_guarded_packed, judge_indexed_packed, judge_packed};
-use glintstring::{show, show_start, Packed, DERIVATION_LIMIT, INDEX_MOST, REQUEST_LIMIT, STATE_LENGTH};
+use glintstring::{judge_values_packed, show, show_start, Packed, DERIVATION_LIMIT, INDEX_MOST, REQUEST_LIMIT, STATE_LENGTH};
 
 /// Number, input, place and count.
 fn numbers(packed: Packed) -> (u8, u8, usize, u32) {
@@ -25,6 +25,25 @@ fn largest_request() -> (Vec<u8>, usize) {
     let branchings = [&[255, 8], &branches[..]].concat().repeat(45);
     let place = before.len();
     ([before, branchings, vec![0; 9 + 2]].concat(), place)
+}
+
+/// A list of literals by values: fluent 0 is 0, fluent 1 is 0, fluent 2 is 0 and so on.
+fn value_list(count: u8) -> Vec<u8> {
+    [count].into_iter().chain((0..count).flat_map(|fluent| [fluent, 0])).collect()
+}
+
+/// The same by values, of which each fluent has 16: 255 effects and 100 executability lines with 16 literals each, and branchings of eight branches. Where the
+/// literal of the last effect stands is given too.
+fn largest_values_request() -> (Vec<u8>, usize, usize) {
+    let effects = [&[0, 127, 0], &value_list(16)[..]].concat().repeat(255);
+    let lines = [&[0], &value_list(16)[..]].concat().repeat(100);
+    let before_lines = [&[128], &[16; 128][..], &[1, 0, 255], &effects].concat();
+    let before = [&before_lines[..], &[100], &lines, &[0, 0, 13]].concat();
+    let branch = |bits: u8| [value_list(13), vec![13, 2 * (bits & 1), 14, 2 * (bits >> 1 & 1), 15, 2 * (bits >> 2)], vec![0, 0]].concat();
+    let branches: Vec<u8> = (0..8).map(branch).flat_map(|branch| [&[16], &branch[1..]].concat()).collect();
+    let branchings = [&[255, 8], &branches[..]].concat().repeat(13);
+    let (place, last) = (before.len(), before_lines.len() - 35);
+    ([before, branchings, vec![0; 2]].concat(), place, last)
 }
 
 /// 1,024 lines that have as many bytes as there may be, and the request whose question the last one is.
@@ -93,7 +112,17 @@ fn requests_that_are_walked_by_cases() {
     requests_and_lent_states(judge_by_cases_packed, &largest, (44, 1, place, 0));
 }
 
-/// The same request with as many actions as there may be, by its index, which is as long as any; and by an index of another length.
+/// The largest values request; and with an effect that says "is not".
+#[test]
+fn values_requests_that_are_walked() {
+    let (mut largest, place, effect) = largest_values_request();
+    requests_and_lent_states(judge_values_packed, &largest, (2, 1, place, 0));
+    assert_eq!(largest[effect..effect + 3], [127, 0, 16]);
+    largest[effect + 1] = 31;
+    requests_and_lent_states(judge_values_packed, &largest, (46, 1, effect, 0));
+}
+
+/// The largest request with as many actions as there may be, by its index, which is as long as any; and by an index of another length.
 #[test]
 fn requests_that_are_walked_by_an_index() {
     let (mut largest, place) = largest_request();
@@ -109,7 +138,7 @@ fn requests_that_are_walked_by_an_index() {
     }
 }
 
-/// The same request, and one that has the longest list of facts, for which there is a derivation: `0 2` and two lines. In rooms of no byte, of as many as there
+/// The largest request, and one that has the longest list of facts, for which there is a derivation: `0 2` and two lines. In rooms of no byte, of as many as there
 /// are, and of as many as a derivation may have.
 #[test]
 fn requests_that_are_derived() {

@@ -27,6 +27,7 @@ use Rattle.checking.specs.Checked.{derivation-of, derivation-in, lines-i
 use Rattle.checking.specs.Asked.{Derivation-stands, Some-derivation, End-checked}
 use Rattle.comparing.proofs.LinesStand.{derived-whole, derived-count, derived-stand, count-first, count-second, derived-least}
 use Rattle.checking.proofs.QuestionLaws.{fluents-are, actions-are}
+use Rattle.meaning.specs.declared.Form.the-variants.{Flags}
 
 -- In what follows the places were `start` before.
 module _ (layout : Layout) (n m : ℕ) (d start places : List ℕ) (r : Passed) (read : outcome r places ≡ noting derivation-noted (settled-derivation layout n m d) start) where
@@ -95,28 +96,28 @@ module _ (layout : Layout) (n m : ℕ) (d start places : List ℕ) (r : Passed) 
         end-is x a checked = checked .holds (some .derivation) stands ∙ ap (λ (y : Derivation). passed (check-end layout x y)) (sym derivation-is)
 
   -- For a request at hand.
-  module _ (s t : List ℕ) (here : At-hand s t) (fluents : n ≡ getD s 0 0) (actions : m ≡ getD s 1 0) where
-    pub settled-fault : (k q : ℕ) → r ≡ Stop k q → Stop k q ≡ passed (check-derivation format layout (request-in s t) d)
+  module _ (s t : List ℕ) (here : At-hand Flags s t) (fluents : n ≡ getD s 0 0) (actions : m ≡ getD s 1 0) where
+    pub settled-fault : (k q : ℕ) → r ≡ Stop k q → Stop k q ≡ passed (check-derivation format layout (request-in Flags s t) d)
     unfolding passed next request-in
     settled-fault k q is =
         let met : settled-derivation layout n m d ≡ fault k q = noting-fault derivation-noted (settled-derivation layout n m d) r start places read k q is in
-        sym (ap passed (begins (request-in s t) (fluents-are s t here n fluents) (actions-are s t here m actions) ∙ ap (λ (g : Got Derivation). next g (λ y _. rest (request-in s t) y)) met))
+        sym (ap passed (begins (request-in Flags s t) (fluents-are s t here n fluents) (actions-are s t here m actions) ∙ ap (λ (g : Got Derivation). next g (λ y _. rest (request-in Flags s t) y)) met))
 
-    module _ (room : length start ≡ places-slots) (e : ℕ) (is : r ≡ To e) (lines : Passed) (in-order : lines ≡ passed (check-lines format layout (table-in s) (lines-in layout n m d) 0 (lines-in layout n m d))) where
-      whole : check-derivation format layout (request-in s t) d
-          ≡ next (check-lines format layout (table-in s) (lines-in layout n m d) 0 (lines-in layout n m d)) (λ _ _. check-end layout (request-in s t) (derivation-in layout n m d))
+    module _ (room : length start ≡ places-slots) (e : ℕ) (is : r ≡ To e) (lines : Passed) (in-order : lines ≡ passed (check-lines format layout (table-in Flags s) (lines-in layout n m d) 0 (lines-in layout n m d))) where
+      whole : check-derivation format layout (request-in Flags s t) d
+          ≡ next (check-lines format layout (table-in Flags s) (lines-in layout n m d) 0 (lines-in layout n m d)) (λ _ _. check-end layout (request-in Flags s t) (derivation-in layout n m d))
       unfolding rest lines-in request-in
-      whole = whole-is room e is (request-in s t) (fluents-are s t here n fluents) (actions-are s t here m actions)
+      whole = whole-is room e is (request-in Flags s t) (fluents-are s t here n fluents) (actions-are s t here m actions)
 
-      pub lines-fault : (k q : ℕ) → lines ≡ Stop k q → Stop k q ≡ passed (check-derivation format layout (request-in s t) d)
+      pub lines-fault : (k q : ℕ) → lines ≡ Stop k q → Stop k q ≡ passed (check-derivation format layout (request-in Flags s t) d)
       unfolding passed next
       lines-fault k q stopped =
-          let met = passed-stop (check-lines format layout (table-in s) (lines-in layout n m d) 0 (lines-in layout n m d)) k q (sym in-order ∙ stopped) in
-          sym (ap passed (whole ∙ ap (λ (g : Got (Unit {0})). next g (λ _ _. check-end layout (request-in s t) (derivation-in layout n m d))) met))
+          let met = passed-stop (check-lines format layout (table-in Flags s) (lines-in layout n m d) 0 (lines-in layout n m d)) k q (sym in-order ∙ stopped) in
+          sym (ap passed (whole ∙ ap (λ (g : Got (Unit {0})). next g (λ _ _. check-end layout (request-in Flags s t) (derivation-in layout n m d))) met))
 
-      pub lines-checked : (q : ℕ) → lines ≡ To q → (count : ℕ) → count ≡ getD d 0 0 * 256 + getD d 1 0 → ((i : ℕ) → Fits w8 (getD d i 0)) → n ≤ format .fluents → m ≤ format .actions → (a : Passed) → End-checked layout (request-in s t) d places count a
-          → a ≡ passed (check-derivation format layout (request-in s t) d)
+      pub lines-checked : (q : ℕ) → lines ≡ To q → (count : ℕ) → count ≡ getD d 0 0 * 256 + getD d 1 0 → ((i : ℕ) → Fits w8 (getD d i 0)) → n ≤ format .fluents → m ≤ format .actions → (a : Passed) → End-checked layout (request-in Flags s t) d places count a
+          → a ≡ passed (check-derivation format layout (request-in Flags s t) d)
       unfolding next
       lines-checked q through count counted bytes few less a checked =
-          let all = passed-to (check-lines format layout (table-in s) (lines-in layout n m d) 0 (lines-in layout n m d)) q (sym in-order ∙ through) in
-          end-is room e is count counted bytes few less (request-in s t) a checked ∙ sym (ap passed (whole ∙ rw (all .1) refl))
+          let all = passed-to (check-lines format layout (table-in Flags s) (lines-in layout n m d) 0 (lines-in layout n m d)) q (sym in-order ∙ through) in
+          end-is room e is count counted bytes few less (request-in Flags s t) a checked ∙ sym (ap passed (whole ∙ rw (all .1) refl))

@@ -37,6 +37,7 @@ use Rattle.checking.specs.Checked.{no-line}
 use Rattle.checking.specs.Asked.{conclusion-asked, Names, Entries-checked, Derivation-stands, Some-derivation, Closing-checked, End-checked}
 use Rattle.checking.proofs.EachLineLaws.{numbers-room}
 use Rattle.checking.proofs.QuestionLaws.{whether-asked}
+use Rattle.meaning.specs.declared.Form.the-variants.{Flags}
 
 -- A LINE BY ITS NUMBER.
 names-there : (r : Request) (Y : Conclusion) (other : Line) (ls : List Line) (k : ℕ) → k < length ls → names r ls k Y ≡ asks-for r Y (getD ls k other)
@@ -92,13 +93,13 @@ pub record Left (s t d : List ℕ) (ls : List Line) (end i at : ℕ) (whole : Pa
   pub numbers : List ℕ
   pub stand : Numbers-stand d at numbers
   pub size : length numbers ≡ end - i
-  pub same : whole ≡ passed (check-entries (request-in s t) ls at (map knows-whether (bytes-from s (i + 1) (end - i))) numbers)
+  pub same : whole ≡ passed (check-entries (request-in Flags s t) ls at (map knows-whether (bytes-from s (i + 1) (end - i))) numbers)
 
 pub record So-far (s t d places : List ℕ) (count whether first end i at : ℕ) : Type 0 where
   pub ends : end ≡ whether + getD s whether 0
   pub room : at + 2 * (end - i) ≤ length d
   pub holds : (ls : List Line) (ks : List ℕ) → Lines-stand Closing d places ls → length ls ≡ count → Numbers-stand d first ks → length ks ≡ length (listed s whether)
-      → Left s t d ls end i at (passed (check-entries (request-in s t) ls first (map knows-whether (listed s whether)) ks))
+      → Left s t d ls end i at (passed (check-entries (request-in Flags s t) ls first (map knows-whether (listed s whether)) ks))
 
 module _ (s : List ℕ) (whether : ℕ) (here : List-here (format .fluents) s whether) where
   pub list-there : whether < length s
@@ -120,7 +121,7 @@ module _ (s t d places : List ℕ) (count whether first : ℕ) where
               numbers = ks;
               stand = numbers;
               size = long ∙ listed-length s whether ∙ sym all;
-              same = ap (λ (k : ℕ). passed (check-entries (request-in s t) ls first (map knows-whether (bytes-from s (whether + 1) k)) ks)) (sym all);
+              same = ap (λ (k : ℕ). passed (check-entries (request-in Flags s t) ls first (map knows-whether (bytes-from s (whether + 1) k)) ks)) (sym all);
             };
       }
 
@@ -131,7 +132,7 @@ module _ (s t d places : List ℕ) (count whether first : ℕ) where
         record {
           holds = λ ls ks stand size numbers long.
               let left = so-far .holds ls ks stand size numbers long in
-              sym (left .same ∙ ap (λ (xs : List ℕ). passed (check-entries (request-in s t) ls at (map knows-whether xs) (left .numbers))) (bytes-done s end i over));
+              sym (left .same ∙ ap (λ (xs : List ℕ). passed (check-entries (request-in Flags s t) ls at (map knows-whether xs) (left .numbers))) (bytes-done s end i over));
         }
 
     module _ (more : i < end) where
@@ -154,21 +155,21 @@ module _ (s t d places : List ℕ) (count whether first : ℕ) where
         read : getD d at 0 * 256 + getD d (at + 1) 0 ≡ number
         stand : Numbers-stand d (at + 2) numbers
         size : length numbers ≡ end - (i + 1)
-        same : whole ≡ passed (check-entries (request-in s t) ls at (knows-whether (getD s (i + 1) 0) ∷ map knows-whether (bytes-from s (i + 1 + 1) (end - (i + 1)))) (number ∷ numbers))
+        same : whole ≡ passed (check-entries (request-in Flags s t) ls at (knows-whether (getD s (i + 1) 0) ∷ map knows-whether (bytes-from s (i + 1 + 1) (end - (i + 1)))) (number ∷ numbers))
 
       entry-next : (ls : List Line) (whole : Passed) → Left s t d ls end i at whole → Next ls whole
       unfolding Numbers-stand
-      entry-next ls whole left = split (left .numbers) (left .stand) (left .size) (left .same ∙ ap (λ (xs : List ℕ). passed (check-entries (request-in s t) ls at (map knows-whether xs) (left .numbers))) (bytes-next s end i more))
+      entry-next ls whole left = split (left .numbers) (left .stand) (left .size) (left .same ∙ ap (λ (xs : List ℕ). passed (check-entries (request-in Flags s t) ls at (map knows-whether xs) (left .numbers))) (bytes-next s end i more))
         where
           split : (ks : List ℕ) → Numbers-stand d at ks → length ks ≡ end - i
-              → whole ≡ passed (check-entries (request-in s t) ls at (map knows-whether (getD s (i + 1) 0 ∷ bytes-from s (i + 1 + 1) (end - (i + 1)))) ks) → Next ls whole
+              → whole ≡ passed (check-entries (request-in Flags s t) ls at (map knows-whether (getD s (i + 1) 0 ∷ bytes-from s (i + 1 + 1) (end - (i + 1)))) ks) → Next ls whole
           split [] stand size same = absurd (omega (arith, size, more))
           split (k ∷ ks) stand size same = record { number = k; numbers = ks; read = stand .1; stand = stand .2; size = omega (arith, size, more); same = same }
 
-      module _ (good : Bool) (asked : Names (request-in s t) d places count at (Fluent (getD s (i + 1) 0)) good) where
-        good-is : (ls : List Line) (whole : Passed) (now : Next ls whole) → Lines-stand Closing d places ls → length ls ≡ count → good ≡ names (request-in s t) ls (now .number) (knows-whether (getD s (i + 1) 0))
+      module _ (good : Bool) (asked : Names (request-in Flags s t) d places count at (Fluent (getD s (i + 1) 0)) good) where
+        good-is : (ls : List Line) (whole : Passed) (now : Next ls whole) → Lines-stand Closing d places ls → length ls ≡ count → good ≡ names (request-in Flags s t) ls (now .number) (knows-whether (getD s (i + 1) 0))
         unfolding conclusion-asked
-        good-is ls whole now stand size = asked .holds ls stand size ∙ ap (λ (k : ℕ). names (request-in s t) ls k (knows-whether (getD s (i + 1) 0))) (now .read)
+        good-is ls whole now stand size = asked .holds ls stand size ∙ ap (λ (k : ℕ). names (request-in Flags s t) ls k (knows-whether (getD s (i + 1) 0))) (now .read)
 
         pub entries-next : good ≡ true → So-far s t d places count whether first end (i + 1) (at + 2)
         entries-next e =
@@ -182,7 +183,7 @@ module _ (s t d places : List ℕ) (count whether first : ℕ) where
                     numbers = now .numbers;
                     stand = now .stand;
                     size = now .size;
-                    same = now .same ∙ ap passed (entry-right (request-in s t) ls at _ _ (now .number) (now .numbers) (sym e ∙ good-is ls _ now stand size));
+                    same = now .same ∙ ap passed (entry-right (request-in Flags s t) ls at _ _ (now .number) (now .numbers) (sym e ∙ good-is ls _ now stand size));
                   };
             }
 
@@ -192,7 +193,7 @@ module _ (s t d places : List ℕ) (count whether first : ℕ) where
             record {
               holds = λ ls ks stand size numbers long.
                   let now = entry-next ls _ (so-far .holds ls ks stand size numbers long) in
-                  sym (now .same ∙ ap passed (entry-wrong (request-in s t) ls at _ _ (now .number) (now .numbers) (sym e ∙ good-is ls _ now stand size)));
+                  sym (now .same ∙ ap passed (entry-wrong (request-in Flags s t) ls at _ _ (now .number) (now .numbers) (sym e ∙ good-is ls _ now stand size)));
             }
 
 -- THE LAST LINE.
@@ -249,7 +250,7 @@ module _ (layout : Layout) (d places : List ℕ) (count : ℕ) where
               ∙ ap (λ (y : Layout). passed (check-end y r x)) (sym closing);
         }
 
-pub sum-fits : (s t : List ℕ) → At-hand s t → (p x : ℕ) → x ≡ getD s p 0 → (more : ℕ) → more < 256 → Fits w64 (more + x)
+pub sum-fits : (s t : List ℕ) → At-hand Flags s t → (p x : ℕ) → x ≡ getD s p 0 → (more : ℕ) → more < 256 → Fits w64 (more + x)
 sum-fits s t here p x byte more few = let below = here .bytes p in record { fits = omega (arith, below, byte, few) }
 
 pub closing-lines : (d places : List ℕ) (count : ℕ) → Some-derivation Closing d places count → Some-lines Closing d places count
@@ -289,18 +290,18 @@ module _ (d places : List ℕ) (count closing : ℕ) (at-closing : closing ≡ g
         fluents-numbers x byte = let inside = numbers-inside in omega (arith, inside, due, byte)
 
   -- What is asked of it by a request at hand.
-  module _ (s t : List ℕ) (here : At-hand s t) (goals : ℕ) (at-goals : goals ≡ getD t goals-slot 0) (whether : ℕ) (after : whether ≡ sequence-place s goals) (number : ℕ) (byte : number ≡ getD s whether 0) where
-    asked-are : all-asked (request-in s t) ≡ goals-of (request-in s t) ∷ map knows-whether (listed s whether)
+  module _ (s t : List ℕ) (here : At-hand Flags s t) (goals : ℕ) (at-goals : goals ≡ getD t goals-slot 0) (whether : ℕ) (after : whether ≡ sequence-place Flags s goals) (number : ℕ) (byte : number ≡ getD s whether 0) where
+    asked-are : all-asked (request-in Flags s t) ≡ goals-of (request-in Flags s t) ∷ map knows-whether (listed s whether)
     unfolding all-asked
-    asked-are = ap (λ (Ys : List Conclusion). goals-of (request-in s t) ∷ Ys) (whether-asked s t here goals at-goals whether after)
+    asked-are = ap (λ (Ys : List Conclusion). goals-of (request-in Flags s t) ∷ Ys) (whether-asked s t here goals at-goals whether after)
 
-    asked-long : length (all-asked (request-in s t)) ≡ 1 + number
+    asked-long : length (all-asked (request-in Flags s t)) ≡ 1 + number
     asked-long =
         let fluents : length (map knows-whether (listed s whether)) ≡ number = length-map (listed s whether) knows-whether ∙ listed-length s whether ∙ sym byte in
         ap length asked-are ∙ omega (arith, fluents)
 
     module _ (size : ℕ) (read : size ≡ getD d closing 0) where
-      pub closing-not-due : (size ≡ 1 + number → ⊥) → Closing-checked (request-in s t) d places count (Stop 36 closing)
+      pub closing-not-due : (size ≡ 1 + number → ⊥) → Closing-checked (request-in Flags s t) d places count (Stop 36 closing)
       unfolding check-closing passed
       closing-not-due other =
           record {
@@ -308,7 +309,7 @@ module _ (d places : List ℕ) (count closing : ℕ) (at-closing : closing ≡ g
                 let long = asked-long in
                 let counted : size ≡ length (x .closing) = read ∙ closes x stands .1 in
                 let place : closing ≡ x .closing-place = at-closing ∙ stands .closes in
-                sym (ap passed (pick-false _ _ _ (ne-eqb (length (x .closing)) (length (all-asked (request-in s t))) (λ e. other (omega (arith, e, long, counted)))) ∙ ap (fault 36) (sym place)));
+                sym (ap passed (pick-false _ _ _ (ne-eqb (length (x .closing)) (length (all-asked (request-in Flags s t))) (λ e. other (omega (arith, e, long, counted)))) ∙ ap (fault 36) (sym place)));
           }
 
       module _ (due : size ≡ 1 + number) where
@@ -319,7 +320,7 @@ module _ (d places : List ℕ) (count closing : ℕ) (at-closing : closing ≡ g
           told : getD d (closing + 1) 0 * 256 + getD d (closing + 1 + 1) 0 ≡ first
           stand : Numbers-stand d (closing + 3) numbers
           long : length numbers ≡ length (listed s whether)
-          same : check-closing (request-in s t) x ≡ check-entries (request-in s t) (x .lines) (closing + 1) (goals-of (request-in s t) ∷ map knows-whether (listed s whether)) (first ∷ numbers)
+          same : check-closing (request-in Flags s t) x ≡ check-entries (request-in Flags s t) (x .lines) (closing + 1) (goals-of (request-in Flags s t) ∷ map knows-whether (listed s whether)) (first ∷ numbers)
 
         closed : (x : Derivation) → Derivation-stands Closing d places count x → Closed x
         unfolding check-closing Numbers-stand
@@ -331,11 +332,11 @@ module _ (d places : List ℕ) (count closing : ℕ) (at-closing : closing ≡ g
             counted : length (x .closing) ≡ 1 + number
             counted = sym (all .1) ∙ sym read ∙ due
 
-            whole : check-closing (request-in s t) x ≡ check-entries (request-in s t) (x .lines) (closing + 1) (goals-of (request-in s t) ∷ map knows-whether (listed s whether)) (x .closing)
+            whole : check-closing (request-in Flags s t) x ≡ check-entries (request-in Flags s t) (x .lines) (closing + 1) (goals-of (request-in Flags s t) ∷ map knows-whether (listed s whether)) (x .closing)
             whole =
                 let place : x .closing-place ≡ closing = sym (at-closing ∙ stands .closes) in
-                pick-true _ _ _ (eq-eqb (length (x .closing)) (length (all-asked (request-in s t))) (counted ∙ sym asked-long))
-                ∙ ap₂ {C = Got (Unit {0})} (λ (p : ℕ) (Ys : List Conclusion). check-entries (request-in s t) (x .lines) (p + 1) Ys (x .closing)) place asked-are
+                pick-true _ _ _ (eq-eqb (length (x .closing)) (length (all-asked (request-in Flags s t))) (counted ∙ sym asked-long))
+                ∙ ap₂ {C = Got (Unit {0})} (λ (p : ℕ) (Ys : List Conclusion). check-entries (request-in Flags s t) (x .lines) (p + 1) Ys (x .closing)) place asked-are
 
             split : (ks : List ℕ) → x .closing ≡ ks → Closed x
             split [] e = let none : length (x .closing) ≡ 0 = ap length e in let some = counted in absurd (omega (arith, none, some))
@@ -350,24 +351,24 @@ module _ (d places : List ℕ) (count closing : ℕ) (at-closing : closing ≡ g
                   told = stand .1;
                   stand = subst (λ (p : ℕ). Numbers-stand d p ks) three (stand .2);
                   long = omega (arith, size, fluents, byte);
-                  same = whole ∙ ap (check-entries (request-in s t) (x .lines) (closing + 1) (goals-of (request-in s t) ∷ map knows-whether (listed s whether))) e;
+                  same = whole ∙ ap (check-entries (request-in Flags s t) (x .lines) (closing + 1) (goals-of (request-in Flags s t) ∷ map knows-whether (listed s whether))) e;
                 }
 
-        module _ (good : Bool) (asked : Names (request-in s t) d places count (closing + 1) Goals good) where
-          good-names : (x : Derivation) → Derivation-stands Closing d places count x → (c : Closed x) → good ≡ names (request-in s t) (x .lines) (c .first) (goals-of (request-in s t))
+        module _ (good : Bool) (asked : Names (request-in Flags s t) d places count (closing + 1) Goals good) where
+          good-names : (x : Derivation) → Derivation-stands Closing d places count x → (c : Closed x) → good ≡ names (request-in Flags s t) (x .lines) (c .first) (goals-of (request-in Flags s t))
           unfolding conclusion-asked
-          good-names x stands c = asked .holds (x .lines) (stands .stand) (stands .size) ∙ ap (λ (k : ℕ). names (request-in s t) (x .lines) k (goals-of (request-in s t))) (c .told)
+          good-names x stands c = asked .holds (x .lines) (stands .stand) (stands .size) ∙ ap (λ (k : ℕ). names (request-in Flags s t) (x .lines) k (goals-of (request-in Flags s t))) (c .told)
 
-          pub goals-wrong : good ≡ false → Closing-checked (request-in s t) d places count (Stop 36 (closing + 1))
+          pub goals-wrong : good ≡ false → Closing-checked (request-in Flags s t) d places count (Stop 36 (closing + 1))
           unfolding passed
           goals-wrong e =
               record {
                 holds = λ x stands.
                     let c = closed x stands in
-                    sym (ap passed (c .same ∙ entry-wrong (request-in s t) (x .lines) (closing + 1) _ _ (c .first) (c .numbers) (sym e ∙ good-names x stands c)));
+                    sym (ap passed (c .same ∙ entry-wrong (request-in Flags s t) (x .lines) (closing + 1) _ _ (c .first) (c .numbers) (sym e ∙ good-names x stands c)));
               }
 
-          pub goals-right : good ≡ true → (answer : Passed) → Entries-checked s t d places count whether (closing + 3) answer → Closing-checked (request-in s t) d places count answer
+          pub goals-right : good ≡ true → (answer : Passed) → Entries-checked s t d places count whether (closing + 3) answer → Closing-checked (request-in Flags s t) d places count answer
           goals-right e answer rest =
               record {
                 holds = λ x stands.
@@ -375,6 +376,6 @@ module _ (d places : List ℕ) (count closing : ℕ) (at-closing : closing ≡ g
                     let three : closing + 1 + 2 ≡ closing + 3 = omega arith in
                     rest .holds (x .lines) (c .numbers) (stands .stand) (stands .size) (c .stand) (c .long)
                     ∙ sym (ap passed (c .same
-                    ∙ entry-right (request-in s t) (x .lines) (closing + 1) _ _ (c .first) (c .numbers) (sym e ∙ good-names x stands c)
-                    ∙ ap (λ (p : ℕ). check-entries (request-in s t) (x .lines) p (map knows-whether (listed s whether)) (c .numbers)) three));
+                    ∙ entry-right (request-in Flags s t) (x .lines) (closing + 1) _ _ (c .first) (c .numbers) (sym e ∙ good-names x stands c)
+                    ∙ ap (λ (p : ℕ). check-entries (request-in Flags s t) (x .lines) p (map knows-whether (listed s whether)) (c .numbers)) three));
               }

@@ -10,6 +10,7 @@ use lib.Dec.{leb, ltb, eqb}
 use mir.Syntax.{w64}
 use mir.Val.{Fits}
 use borrow.Author.Tests.{ltb-true, eqb-true, lt-ltb, le-ltb, le-leb, lt-leb, eq-eqb, ne-eqb}
+use Rattle.meaning.specs.declared.Form.the-variants.{Flags}
 use Rattle.meaning.specs.declared.Layout.{Layout}
 use Rattle.meaning.specs.declared.Layout.the-variants.{Plain, Closing}
 use Rattle.meaning.specs.Tests.{both, either, fails, pick, some-of, each-of}
@@ -282,7 +283,7 @@ two-numbers d q (k ∷ ks) h w = rw (w .1) (ap (λ (js : List ℕ). k ∷ js) (o
 line-small : (n m : ℕ) (d : List ℕ) → n ≤ format .fluents → m ≤ format .actions → (layout : Layout) (p : ℕ) (l : Line) → Line-here n m d layout p l → Small (l .c)
 line-small n m d few less layout p l here =
     let parts = line-parts n m d few layout p l here in
-    subst Small (parts .is) (plan-small n m d less (after-list d p) (parts .plan) (parts .end) (parts .reads))
+    subst Small (parts .is) (plan-small Flags n m d less (after-list d p) (parts .plan) (parts .end) (parts .reads))
 
 module _ (layout : Layout) (n m : ℕ) (d places : List ℕ) (count i : ℕ) (here : Numbered layout n m d places count i) where
   inside : (k : ℕ) → k < count → k < length (lines-in layout n m d)

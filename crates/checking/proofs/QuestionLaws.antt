@@ -19,7 +19,7 @@ use Rattle.reading.specs.Noted.{plan-slot, items-slot, goals-slot}
 use Rattle.finding.specs.Branches.{sequence-place}
 use Rattle.steps.specs.Held.{table-in, plan-in, goals-in, whether-in, request-in}
 use Rattle.steps.specs.AtHand.{At-hand}
-use Rattle.steps.proofs.HandLaws.{starts, sections, is-whether}
+use Rattle.steps.proofs.HandLaws.{starts, sections, goals-here, is-whether}
 use Rattle.comparing.specs.declared.spots.Spot.{Spot}
 use Rattle.comparing.specs.Stands.{Plan-stands, Conclusion-stands, Stands}
 use Rattle.comparing.specs.RuleAnswers.{Some-plan, Same-plans, Some-concluded, Some-stands, Ruled}
@@ -29,6 +29,7 @@ use Rattle.checking.specs.Asked.{conclusion-asked, begins}
 use Rattle.comparing.proofs.SpotLaws.{concluded-there, concluded-list}
 use Rattle.comparing.proofs.LinesStand.{plan-stands}
 use Rattle.ruling.proofs.RuleLaws.{no-left, yes-left, plan-of}
+use Rattle.meaning.specs.declared.Form.the-variants.{Flags}
 
 placed-asked : (p : ℕ) (xs : List ℕ) → map (λ (w : Entry). knows-whether (w .value)) (placed p xs) ≡ map knows-whether xs
 unfolding placed
@@ -36,7 +37,7 @@ placed-asked p [] = refl
 placed-asked p (x ∷ xs) = ap (λ (Ys : List Conclusion). knows-whether x ∷ Ys) (placed-asked (p + 1) xs)
 
 -- A REQUEST at hand.
-module _ (s t : List ℕ) (here : At-hand s t) where
+module _ (s t : List ℕ) (here : At-hand Flags s t) where
   pub first-there : 0 < length s
   first-there = let there = starts s t here .front .second in omega (arith, there)
 
@@ -44,65 +45,68 @@ module _ (s t : List ℕ) (here : At-hand s t) where
   second-there = starts s t here .front .second
 
   module _ (n : ℕ) (is : n ≡ getD s 0 0) where
-    pub fluents-are : n ≡ table-in s .fluents
+    pub fluents-are : n ≡ table-in Flags s .fluents
     fluents-are = is ∙ starts s t here .front .fluents-are
 
     pub fluents-few : n ≤ format .fluents
     fluents-few = let few = starts s t here .front .most in let same = fluents-are in omega (arith, few, same)
 
   module _ (m : ℕ) (is : m ≡ getD s 1 0) where
-    pub actions-are : m ≡ table-in s .actions
+    pub actions-are : m ≡ table-in Flags s .actions
     actions-are = is ∙ starts s t here .front .actions-are
 
     pub actions-few : m ≤ format .actions
     actions-few = let few = starts s t here .front .few in let same = actions-are in omega (arith, few, same)
 
   module _ (goals : ℕ) (at-goals : goals ≡ getD t goals-slot 0) where
-    goals-same : listed s goals ≡ values (request-in s t .goals)
+    pub goals-there : List-here all-literals s goals
+    goals-there = goals-here s t here goals at-goals
+
+    goals-same : listed s goals ≡ values (request-in Flags s t .goals)
     unfolding request-in goals-in
     goals-same = rw at-goals (sym (placed-values (getD t goals-slot 0 + 1) (listed s (getD t goals-slot 0))))
 
     module _ (asked : ℕ) (at-plan : asked ≡ getD t plan-slot 0) where
-      asked-stands : Plan-stands s asked goals (plan-in s t)
+      asked-stands : Plan-stands s asked goals (plan-in Flags s t)
       unfolding goals-in
       asked-stands =
           let whole = sections s t here in
           rw (at-plan, at-goals)
-          (plan-stands (table-in s .fluents) (table-in s .actions) s (here .bytes) (whole .few) (whole .less) (getD t plan-slot 0) (record { value = plan-in s t; items = getD t items-slot 0 }) (goals-in t) (here .plan))
+          (plan-stands (table-in Flags s .fluents) (table-in Flags s .actions) s (here .bytes) (whole .few) (whole .less) (getD t plan-slot 0) (record { value = plan-in Flags s t; items = getD t items-slot 0 }) (goals-in t) (here .plan))
 
       pub asked-some : Some-plan s asked goals
-      asked-some = record { plan = plan-in s t; stands = asked-stands }
+      asked-some = record { plan = plan-in Flags s t; stands = asked-stands }
 
     -- THE WHETHER ENTRIES.
-    module _ (whether : ℕ) (after : whether ≡ sequence-place s goals) where
-      pub whether-asked : map (λ (w : Entry). knows-whether (w .value)) (request-in s t .whether) ≡ map knows-whether (listed s whether)
+    module _ (whether : ℕ) (after : whether ≡ sequence-place Flags s goals) where
+      pub whether-asked : map (λ (w : Entry). knows-whether (w .value)) (request-in Flags s t .whether) ≡ map knows-whether (listed s whether)
       unfolding request-in
       whether-asked =
-          placed-asked (whether-in s t + 1) (listed s (whether-in s t))
+          placed-asked (whether-in Flags s t + 1) (listed s (whether-in Flags s t))
           ∙ ap (λ (p : ℕ). map knows-whether (listed s p)) (sym (is-whether s t here goals at-goals whether after))
 
   -- THE START of a line at a spot: the facts, then the plan.
   module _ (d : List ℕ) (w : Spot) (facts : Bool) (first : facts ≡ same-list (listed d (w .line)) (listed s 2)) where
-    facts-are : (l : Line) → Stands d w l → facts ≡ same-list (l .X) (table-in s .facts)
+    facts-are : (l : Line) → Stands d w l → facts ≡ same-list (l .X) (table-in Flags s .facts)
     facts-are l stands = first ∙ ap₂ {C = Bool} same-list (stands .X .same) (starts s t here .facts)
 
-    pub other-facts : facts ≡ false → Ruled d w (begins (request-in s t)) false
+    pub other-facts : facts ≡ false → Ruled d w (begins (request-in Flags s t)) false
     unfolding begins request-in
-    other-facts f = record { holds = λ l stands. no-left (same-list (l .X) (table-in s .facts)) _ (sym (facts-are l stands) ∙ f) }
+    other-facts f = record { holds = λ l stands. no-left (same-list (l .X) (table-in Flags s .facts)) _ (sym (facts-are l stands) ∙ f) }
 
-    pub same-facts : facts ≡ true → (q : ℕ) → q ≡ sequence-place d (w .line) → (asked : ℕ) → asked ≡ getD t plan-slot 0 → (goals : ℕ) → goals ≡ getD t goals-slot 0 → (r : Bool) → Same-plans d q (w .end) s asked goals r
-        → Ruled d w (begins (request-in s t)) r
+    pub same-facts : facts ≡ true → (q : ℕ) → q ≡ sequence-place Flags d (w .line) → (asked : ℕ) → asked ≡ getD t plan-slot 0 → (goals : ℕ) → goals ≡ getD t goals-slot 0 → (r : Bool) → Same-plans d q (w .end) s asked goals r
+        → Ruled d w (begins (request-in Flags s t)) r
     unfolding begins request-in
     same-facts e q after asked at-plan goals at-goals r same =
         record {
           holds = λ l stands.
-              same .holds (l .c) (plan-in s t) (plan-of d w q after l stands) (asked-stands goals at-goals asked at-plan)
-              ∙ sym (yes-left (same-list (l .X) (table-in s .facts)) _ (sym (facts-are l stands) ∙ e));
+              same .holds (l .c) (plan-in Flags s t) (plan-of d w q after l stands) (asked-stands goals at-goals asked at-plan)
+              ∙ sym (yes-left (same-list (l .X) (table-in Flags s .facts)) _ (sym (facts-are l stands) ∙ e));
         }
 
 -- A LINE at a spot.
 module _ (d : List ℕ) (w : Spot) (some : Some-stands d w) where
-  pub own-plan : (q : ℕ) → q ≡ sequence-place d (w .line) → Some-plan d q (w .end)
+  pub own-plan : (q : ℕ) → q ≡ sequence-place Flags d (w .line) → Some-plan d q (w .end)
   own-plan q after = record { plan = some .line .c; stands = plan-of d w q after (some .line) (some .stands) }
 
   concluded : Some-concluded d w
@@ -197,6 +201,6 @@ module _ (r : Request) (d : List ℕ) (w : Spot) (asked : Asked) (begun : Bool) 
             holds = λ l stands. sym (asks-as (knows-whether f) is-fluent l stands ∙ fluent-as d (w .conclusion) (w .fluent) e (l .Y) (stands .Y) f);
           }
 
-pub goals-asked : (s t : List ℕ) (here : At-hand s t) (d : List ℕ) (w : Spot) (asked : Asked) (begun : Bool) → Ruled d w (begins (request-in s t)) begun → begun ≡ true → asked ≡ Goals → w .fluent ≡ false
-    → (goals : ℕ) → goals ≡ getD t goals-slot 0 → (same : Bool) → same ≡ same-list (listed d (w .conclusion)) (listed s goals) → Ruled d w (asks-for (request-in s t) (conclusion-asked (request-in s t) asked)) same
-goals-asked s t here d w asked begun first begin is list goals at-goals same said = goals-list (request-in s t) d w asked begun first begin is list (listed s goals) (goals-same s t here goals at-goals) same said
+pub goals-asked : (s t : List ℕ) (here : At-hand Flags s t) (d : List ℕ) (w : Spot) (asked : Asked) (begun : Bool) → Ruled d w (begins (request-in Flags s t)) begun → begun ≡ true → asked ≡ Goals → w .fluent ≡ false
+    → (goals : ℕ) → goals ≡ getD t goals-slot 0 → (same : Bool) → same ≡ same-list (listed d (w .conclusion)) (listed s goals) → Ruled d w (asks-for (request-in Flags s t) (conclusion-asked (request-in Flags s t) asked)) same
+goals-asked s t here d w asked begun first begin is list goals at-goals same said = goals-list (request-in Flags s t) d w asked begun first begin is list (listed s goals) (goals-same s t here goals at-goals) same said

@@ -17,6 +17,7 @@ use Rattle.steps.specs.Held.{request-in}
 use Rattle.comparing.specs.Stands.{Numbers-stand, Lines-stand, Closing-stands}
 use Rattle.checking.specs.declared.question.Asked.{Asked}
 use Rattle.checking.specs.declared.question.Asked.the-variants.{Goals, Fluent}
+use Rattle.meaning.specs.declared.Form.the-variants.{Flags}
 
 -- The conclusion that is asked for.
 unfoldable pub conclusion-asked : Request → Asked → Conclusion
@@ -33,7 +34,7 @@ pub record Names (r : Request) (d places : List ℕ) (count at : ℕ) (asked : A
 -- Whatever lines and numbers stand there, one for each fluent of the list at `whether`.
 pub record Entries-checked (s t d places : List ℕ) (count whether first : ℕ) (answer : Passed) : Type 0 where
   pub holds : (lines : List Line) (ks : List ℕ) → Lines-stand Closing d places lines → length lines ≡ count → Numbers-stand d first ks → length ks ≡ length (listed s whether)
-      → answer ≡ passed (check-entries (request-in s t) lines first (map knows-whether (listed s whether)) ks)
+      → answer ≡ passed (check-entries (request-in Flags s t) lines first (map knows-whether (listed s whether)) ks)
 
 -- The lines of a derivation, of the given number, and what closes it stand where the places say.
 pub record Derivation-stands (layout : Layout) (d places : List ℕ) (count : ℕ) (x : Derivation) : Type 0 where

@@ -4,6 +4,7 @@ ghost use Rattle.meaning.specs.Derivations.{check-derivation};
 ghost use Rattle.bytes.specs.Read.{passed};
 ghost use Rattle.steps.specs.Held.{request-in};
 ghost use Rattle.steps.specs.AtHand.{At-hand};
+ghost use Rattle.meaning.specs.declared.Form.the-variants.{Flags};
 use super::each_line::check_lines;
 use super::question::check_end;
 use bytes::bytes::two;
@@ -19,8 +20,8 @@ use reading::notes::Notes;
 
 // A derivation for a settled request: read, past 18, each line, the question.
 pub fn check_derivation(layout: Layout, s: &[u8], t: &Notes, d: &[u8]) -> Passed
-    requires { ⌜ At-hand (now s) (now t) ⌝ }
-    ensures { λ r. ⌜ r ≡ passed (check-derivation format layout (request-in (now (s .entry)) (now (t .entry))) (now (d .entry))) ⌝ }
+    requires { ⌜ At-hand Flags (now s) (now t) ⌝ }
+    ensures { λ r. ⌜ r ≡ passed (check-derivation format layout (request-in Flags (now (s .entry)) (now (t .entry))) (now (d .entry))) ⌝ }
 {
     let n = wide(s[0]);
     let m = wide(s[1]);

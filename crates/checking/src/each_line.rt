@@ -9,6 +9,7 @@ ghost use Rattle.bytes.specs.Read.{passed};
 ghost use Rattle.steps.specs.Held.{table-in};
 ghost use Rattle.steps.specs.AtHand.{At-hand};
 ghost use Rattle.checking.specs.Checked.{lines-in, line-in, spot-in, All-stand, Numbered, Cites-earlier, all-below, numbers-from, refused-by};
+ghost use Rattle.meaning.specs.declared.Form.the-variants.{Flags};
 use super::refusal_numbers;
 use bytes::bytes::two;
 use bytes::bytes::wide;
@@ -147,12 +148,12 @@ fn gives(
     l: Spot,
     rule: usize,
 ) -> bool
-    requires { ⌜ At-hand (now s) (now t) ⌝ }
+    requires { ⌜ At-hand Flags (now s) (now t) ⌝ }
     requires { ⌜ Numbered layout n m (now d) (now places) lines i ⌝ }
     requires { ⌜ l ≡ spot-in layout (now d) (now places) i ⌝ }
     requires { ⌜ rule ≡ for-lists (line-in layout n m (now d) i .rule) ⌝ }
     requires { ⌜ Cites-earlier layout n m (now d) i ⌝ }
-    ensures { λ r. ⌜ r ≡ given-by format (table-in (now (s .entry))) rule (cited-by (lines-in layout n m (now (d .entry))) (line-in layout n m (now (d .entry)) i)) (line-in layout n m (now (d .entry)) i) ⌝ }
+    ensures { λ r. ⌜ r ≡ given-by format (table-in Flags (now (s .entry))) rule (cited-by (lines-in layout n m (now (d .entry))) (line-in layout n m (now (d .entry)) i)) (line-in layout n m (now (d .entry)) i) ⌝ }
 {
     if rule == rules::EMPTY_RULE {
         return rule_1(d, l);
@@ -200,9 +201,9 @@ fn line_refused(
     lines: usize,
     i: usize,
 ) -> u8
-    requires { ⌜ At-hand (now s) (now t) ⌝ }
+    requires { ⌜ At-hand Flags (now s) (now t) ⌝ }
     requires { ⌜ Numbered layout n m (now d) (now places) lines i ⌝ }
-    ensures { λ r. ⌜ r ≡ refused-by layout (table-in (now (s .entry))) (lines-in layout n m (now (d .entry))) i (line-in layout n m (now (d .entry)) i) ⌝ }
+    ensures { λ r. ⌜ r ≡ refused-by layout (table-in Flags (now (s .entry))) (lines-in layout n m (now (d .entry))) i (line-in layout n m (now (d .entry)) i) ⌝ }
 {
     let l = spot_of(layout, d, places, lines, i);
     let known = is_rule(layout, l.rule);
@@ -240,9 +241,9 @@ pub fn check_lines(
     places: &Places,
     lines: usize,
 ) -> Passed
-    requires { ⌜ At-hand (now s) (now t) ⌝ }
+    requires { ⌜ At-hand Flags (now s) (now t) ⌝ }
     requires { ⌜ All-stand layout n m (now d) (now places) lines ⌝ }
-    ensures { λ r. ⌜ r ≡ passed (check-lines format layout (table-in (now (s .entry))) (lines-in layout n m (now (d .entry))) 0 (lines-in layout n m (now (d .entry)))) ⌝ }
+    ensures { λ r. ⌜ r ≡ passed (check-lines format layout (table-in Flags (now (s .entry))) (lines-in layout n m (now (d .entry))) 0 (lines-in layout n m (now (d .entry)))) ⌝ }
 {
     let mut i = 0;
     while i < lines {

@@ -9,6 +9,7 @@ ghost use Rattle.steps.specs.Held.{request-in};
 ghost use Rattle.steps.specs.AtHand.{At-hand};
 ghost use Rattle.comparing.specs.RuleAnswers.{Some-stands, Some-lines, Ruled};
 ghost use Rattle.checking.specs.Asked.{conclusion-asked, begins, Names, Some-derivation, Entries-checked, Closing-checked, End-checked};
+ghost use Rattle.meaning.specs.declared.Form.the-variants.{Flags};
 use super::refusal_numbers;
 use bytes::bytes::two;
 use bytes::bytes::wide;
@@ -21,6 +22,7 @@ use deriving::derivations;
 use deriving::derivations::Places;
 use deriving::derived::place_of;
 use finding::branches::sequence_of;
+use meaning::Form;
 use meaning::Layout;
 use reading::notes;
 use reading::notes::Notes;
@@ -34,14 +36,14 @@ pub enum Asked {
 
 // The line's X is the initial facts, and its plan is that of the request.
 fn from_the_facts(s: &[u8], t: &Notes, d: &[u8], l: Spot) -> bool
-    requires { ⌜ At-hand (now s) (now t) ⌝ }
+    requires { ⌜ At-hand Flags (now s) (now t) ⌝ }
     requires { ⌜ Some-stands (now d) l ⌝ }
-    ensures { λ r. ⌜ Ruled (now (d .entry)) l (begins (request-in (now (s .entry)) (now (t .entry)))) r ⌝ }
+    ensures { λ r. ⌜ Ruled (now (d .entry)) l (begins (request-in Flags (now (s .entry)) (now (t .entry)))) r ⌝ }
 {
     let p = l.line;
     let starts = same_lists(d, p, s, 2);
     if starts {
-        let plan = sequence_of(d, p);
+        let plan = sequence_of(Form::Flags, d, p);
         let e = l.end;
         let asked = get(t, notes::PLAN);
         let goals = get(t, notes::GOALS);
@@ -52,9 +54,9 @@ fn from_the_facts(s: &[u8], t: &Notes, d: &[u8], l: Spot) -> bool
 
 // The line is the question for what is asked: the initial facts, the plan, and that conclusion.
 fn asks(s: &[u8], t: &Notes, d: &[u8], l: Spot, asked: Asked) -> bool
-    requires { ⌜ At-hand (now s) (now t) ⌝ }
+    requires { ⌜ At-hand Flags (now s) (now t) ⌝ }
     requires { ⌜ Some-stands (now d) l ⌝ }
-    ensures { λ r. ⌜ Ruled (now (d .entry)) l (asks-for (request-in (now (s .entry)) (now (t .entry))) (conclusion-asked (request-in (now (s .entry)) (now (t .entry))) asked)) r ⌝ }
+    ensures { λ r. ⌜ Ruled (now (d .entry)) l (asks-for (request-in Flags (now (s .entry)) (now (t .entry))) (conclusion-asked (request-in Flags (now (s .entry)) (now (t .entry))) asked)) r ⌝ }
 {
     let starts = from_the_facts(s, t, d, l);
     if starts {
@@ -88,10 +90,10 @@ fn names(
     at: usize,
     asked: Asked,
 ) -> bool
-    requires { ⌜ At-hand (now s) (now t) ⌝ }
+    requires { ⌜ At-hand Flags (now s) (now t) ⌝ }
     requires { ⌜ Some-lines Closing (now d) (now places) lines ⌝ }
     requires { ⌜ at + 1 < length (now d) ⌝ }
-    ensures { λ r. ⌜ Names (request-in (now (s .entry)) (now (t .entry))) (now (d .entry)) (now (places .entry)) lines at asked r ⌝ }
+    ensures { λ r. ⌜ Names (request-in Flags (now (s .entry)) (now (t .entry))) (now (d .entry)) (now (places .entry)) lines at asked r ⌝ }
 {
     let second = at + 1;
     let number = two(d[at], d[second]);
@@ -112,7 +114,7 @@ fn check_fluents(
     whether: usize,
     first: usize,
 ) -> Passed
-    requires { ⌜ At-hand (now s) (now t) ⌝ }
+    requires { ⌜ At-hand Flags (now s) (now t) ⌝ }
     requires { ⌜ Some-lines Closing (now d) (now places) lines ⌝ }
     requires { ⌜ List-here (format .fluents) (now s) whether ⌝ }
     requires { ⌜ first + 2 * getD (now s) whether 0 ≤ length (now d) ⌝ }
@@ -135,12 +137,12 @@ fn check_fluents(
 
 // The closing list: its length, then the goals, then each whether entry.
 fn check_closing(s: &[u8], t: &Notes, d: &[u8], places: &Places, lines: usize) -> Passed
-    requires { ⌜ At-hand (now s) (now t) ⌝ }
+    requires { ⌜ At-hand Flags (now s) (now t) ⌝ }
     requires { ⌜ Some-derivation Closing (now d) (now places) lines ⌝ }
-    ensures { λ r. ⌜ Closing-checked (request-in (now (s .entry)) (now (t .entry))) (now (d .entry)) (now (places .entry)) lines r ⌝ }
+    ensures { λ r. ⌜ Closing-checked (request-in Flags (now (s .entry)) (now (t .entry))) (now (d .entry)) (now (places .entry)) lines r ⌝ }
 {
     let goals = get(t, notes::GOALS);
-    let whether = sequence_of(s, goals);
+    let whether = sequence_of(Form::Flags, s, goals);
     let due = 1 + wide(s[whether]);
     let closing = place_of(places, derivations::LINES_END);
     let count = wide(d[closing]);
@@ -165,10 +167,10 @@ pub fn check_end(
     places: &Places,
     lines: usize,
 ) -> Passed
-    requires { ⌜ At-hand (now s) (now t) ⌝ }
+    requires { ⌜ At-hand Flags (now s) (now t) ⌝ }
     requires { ⌜ Some-derivation layout (now d) (now places) lines ⌝ }
     requires { ⌜ 1 ≤ lines ⌝ }
-    ensures { λ r. ⌜ End-checked layout (request-in (now (s .entry)) (now (t .entry))) (now (d .entry)) (now (places .entry)) lines r ⌝ }
+    ensures { λ r. ⌜ End-checked layout (request-in Flags (now (s .entry)) (now (t .entry))) (now (d .entry)) (now (places .entry)) lines r ⌝ }
 {
     match layout {
         Layout::Plain => {

@@ -55,8 +55,8 @@ pub record Branching-coded (s : List ℕ) (p : ℕ) (bs : Branches ℕ) (rest : 
 pub record Branch-coded (s : List ℕ) (p : ℕ) (c : List ℕ) (b : Sequence ℕ) (more : Branches ℕ) : Type 0 where
   pub size : getD s p 0 ≡ length c
   pub condition : listed s p ≡ c
-  pub count : getD s (sequence-place s p) 0 * 256 + getD s (sequence-place s p + 1) 0 ≡ own-items b
-  pub body : bytes-from s (sequence-place s p + 2) (bytes-of Flags b) ≡ coded b
+  pub count : getD s (sequence-place Flags s p) 0 * 256 + getD s (sequence-place Flags s p + 1) 0 ≡ own-items b
+  pub body : bytes-from s (sequence-place Flags s p + 2) (bytes-of Flags b) ≡ coded b
   pub more-there : bytes-from s (p + (1 + length c) + (2 + bytes-of Flags b)) (bytes-under Flags more) ≡ coded-branches more
 
 module _ (s : List ℕ) (p : ℕ) where

@@ -21,6 +21,7 @@ use Rattle.finding.specs.Branches.{sequence-place}
 use Rattle.comparing.specs.declared.spots.Spot.{Spot}
 use Rattle.comparing.specs.Stands.{after-list, Conclusion-stands, Stands, spot-at}
 use Rattle.comparing.specs.RuleAnswers.{Some-concluded, Same-conclusions, Some-at, Some-lines}
+use Rattle.meaning.specs.declared.Form.the-variants.{Flags}
 
 -- A CONCLUSION at y, whatever it is.
 module _ (d : List ℕ) (fluent : Bool) (y : ℕ) where
@@ -68,7 +69,7 @@ module _ (layout : Layout) (d : List ℕ) (p e : ℕ) where
     unfolding spot-at
     plain-list some = list-there d false e (some .line .Y) (plainly some .Y) refl
 
-    module _ (at : ℕ) (after : at ≡ sequence-place d e) where
+    module _ (at : ℕ) (after : at ≡ sequence-place Flags d e) where
       cites-there : Some-at layout d p e → at + 1 < length d
       unfolding spot-at sequence-place after-list
       cites-there some = let counted = plainly some .counted in omega (arith, after, counted)
@@ -118,7 +119,7 @@ module _ (layout : Layout) (d : List ℕ) (p e : ℕ) where
         pub closing-list : Some-at layout d p e → List-here all-literals d (e + 1)
         closing-list some = list-there d false (e + 1) (some .line .Y) (by-list some (kind is) .Y) refl
 
-        pub list-spot : (cites : ℕ) → cites ≡ sequence-place d (e + 1) → record { line = p; end = e; conclusion = e + 1; cites = cites; rule = rule; fluent = false } ≡ spot-at layout d p e
+        pub list-spot : (cites : ℕ) → cites ≡ sequence-place Flags d (e + 1) → record { line = p; end = e; conclusion = e + 1; cites = cites; rule = rule; fluent = false } ≡ spot-at layout d p e
         unfolding sequence-place after-list
         list-spot cites after = rw (closing, spot-list d p e (kind is), read, after) refl
 

@@ -11,6 +11,7 @@ use deriving::derivations::gives_fluent;
 use deriving::derived::end_of;
 use deriving::derived::place_of;
 use finding::branches::sequence_of;
+use meaning::Form;
 use meaning::Layout;
 
 // Where the parts of a line stand: the line with its list X, the end of its plan, its conclusion, the count of its citations. And its
@@ -31,7 +32,7 @@ fn spot_at(layout: Layout, d: &[u8], p: usize, e: usize) -> Spot
 {
     match layout {
         Layout::Plain => {
-            let at = sequence_of(d, e);
+            let at = sequence_of(Form::Flags, d, e);
             let rule = wide(d[at]);
             let cites = at + 1;
             Spot {
@@ -58,7 +59,7 @@ fn spot_at(layout: Layout, d: &[u8], p: usize, e: usize) -> Spot
                     fluent: true,
                 };
             }
-            let cites = sequence_of(d, y);
+            let cites = sequence_of(Form::Flags, d, y);
             Spot {
                 line: p,
                 end: e,

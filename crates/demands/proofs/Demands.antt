@@ -158,7 +158,7 @@ pub use Rattle.demands.proofs.GuideAnswers.{wrong-number-exactly, again
 pub use Rattle.demands.proofs.GuideSound.{guided}
 pub use Rattle.demands.proofs.GuideReadings.{some-truthful}
 -- THE VALUES CALL. Demand 1 (FORMAT 26.32): its number is one of its own; input, place, count and state are what the number says (26.14).
-pub use Rattle.demands.proofs.ValueAnswers.{values-numbered, values-input, values-place, values-place-limited, values-count, values-state}
+pub use Rattle.meaning.proofs.ValueAnswers.{values-numbered, values-input, values-place, values-place-limited, values-count, values-state}
 -- Demand 2 (FORMAT 26.33): the answer is what the list of paths says; 3 where the count is above the budget, and else 2 where some path stops, 0 where none does and nothing is missed, and
 -- 1 otherwise.
 pub use Rattle.demands.proofs.ValuesExact.{in-values-order, values-spent-exactly, values-stuck-exactly, values-fine-exactly, values-missed-exactly, values-missed-otherwise}

@@ -61,8 +61,6 @@ pub mod ReuseMet
 pub mod Indexed
 pub mod NarrowMet
 pub mod DeriveExact
-pub mod ValuePlaces
-pub mod ValueAnswers
 pub mod ValuesExact
 pub mod ValuesSound
 pub mod ValueReads

@@ -27,7 +27,7 @@ use Rattle.meaning.proofs.WithinLaws.{answered, Never, answered-fine, answered-
 use Rattle.meaning.proofs.PathLaws.{walk-along}
 use Rattle.meaning.proofs.EndLaws.{first-has, Stops, has-ends, all-arrive, Says, end-says, fine-each}
 use Rattle.meaning.proofs.GuardedExact.{says-fine, says-missed}
-use Rattle.demands.proofs.ValueAnswers.{walked-values-stuck, walked-values-never}
+use Rattle.meaning.proofs.ValueAnswers.{walked-values-stuck, walked-values-never}
 
 -- Where a path stops, the walk does.
 says-stopped : (miss : State → Found) (xs : List (Path State)) (e : End State) → Says miss xs e → Stops xs → (n p : ℕ) × (u : Concerned State) × (e ≡ stopped n p u)

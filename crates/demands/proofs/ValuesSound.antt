@@ -28,8 +28,8 @@ use Rattle.meaning.proofs.RefusalLaws.{none-against}
 use Rattle.meaning.proofs.SettledLaws.{got-same, refuse-got, next-got, none-failing}
 use Rattle.meaning.proofs.VerifiedLaws.{Verified-by, verified-past, by-verified}
 use Rattle.meaning.proofs.ValueSound
-use Rattle.demands.proofs.ValuePlaces.{values-settled-numbered}
-use Rattle.demands.proofs.ValueAnswers.{walked-values-never}
+use Rattle.meaning.proofs.ValuePlaces.{values-settled-numbered}
+use Rattle.meaning.proofs.ValueAnswers.{walked-values-never}
 
 -- What a settled values request has passed.
 pub record Settled-values (lim : Limits) (b : List ℕ) (r : Request) (e : ℕ) : Type 0 where

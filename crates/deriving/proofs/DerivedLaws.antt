@@ -30,6 +30,7 @@ use Rattle.reading.specs.Planned.{plan-noted, noting-met, outcome-met}
 use Rattle.finding.specs.Places.{found}
 use Rattle.finding.specs.Branches.{sequence-place}
 use Rattle.finding.specs.PlansHeld.{Some-plan}
+use Rattle.bytes.proofs.LineReaderLaws.{counted-flags}
 use Rattle.refusing.specs.Refusal18.{Overlap-found}
 use Rattle.deriving.specs.DerivationRead.{plan-end, places-noted, derivation-noted, settled-derivation, plan-ends-slot, lines-end, places-slots}
 use Rattle.deriving.specs.Derived.{Line-here, Lines-here, Some-lines, Derivation-here, Line-found, Lines-found}
@@ -51,7 +52,7 @@ module _ (n m : ℕ) (s : List ℕ) where
     first : List-here all-literals s p
     plan : Met (Sequence ℕ)
     end : ℕ
-    reads : plan-at format Flags n m s (sequence-place s p) ≡ got plan end
+    reads : plan-at format Flags n m s (sequence-place Flags s p) ≡ got plan end
     is : plan .value ≡ l .c
 
   line-plan : n ≤ format .fluents → (layout : Layout) (p : ℕ) (l : Line) → Line-here n m s layout p l → Line-plan p l
@@ -75,14 +76,14 @@ module _ (n m : ℕ) (s : List ℕ) where
       }
 
   module _ (few : n ≤ format .fluents) (less : m ≤ format .actions) (plan : ℕ) (t u : List ℕ) (r : Read) (read : outcome-met r u ≡ noting-met (plan-noted Flags plan t) (plan-at format Flags n m s plan)) where
-    pub line-held : (count e : ℕ) → length t ≡ slots → r ≡ Value count e → Some-plan s u count
-    line-held count e room is = plan-left n m s few less plan t u r count e (omega arith) read is
+    pub line-held : (count e : ℕ) → length t ≡ slots → r ≡ Value count e → Some-plan Flags s u count
+    line-held count e room is = plan-left Flags n m s few less (counted-flags s) plan t u r count e (omega arith) read is
 
-    module _ (p : ℕ) (after : plan ≡ sequence-place s p) where
+    module _ (p : ℕ) (after : plan ≡ sequence-place Flags s p) where
       there : (l : Line) → (w : Line-plan p l) → plan-at format Flags n m s plan ≡ got (w .plan) (w .end)
       there l w = ap (plan-at format Flags n m s) after ∙ w .reads
 
-      pub line-sought : (count e : ℕ) (f : Found) → length t ≡ slots → r ≡ Value count e → Overlap-found s u count f → Line-found n m s p f
+      pub line-sought : (count e : ℕ) (f : Found) → length t ≡ slots → r ≡ Value count e → Overlap-found Flags s u count f → Line-found n m s p f
       line-sought count e f room is all =
           record {
             holds = λ layout l here.

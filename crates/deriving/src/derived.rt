@@ -49,10 +49,10 @@ fn overlap_in_line(n: usize, m: usize, s: &[u8], p: usize, t: &mut Notes) -> Fou
     requires { ⌜ List-here all-literals (now s) p ⌝ }
     ensures { λ r. ⌜ Line-found n m (now (s .entry)) p r ⌝ }
 {
-    let plan = sequence_of(s, p);
+    let plan = sequence_of(Form::Flags, s, p);
     notes::sized(t);
     match plan_at(Form::Flags, n, m, s, plan, t) {
-        Read::Value(count, e) => overlap(s, t, count),
+        Read::Value(count, e) => overlap(Form::Flags, s, t, count),
         Read::Fault(k, e) => Found::Nowhere,
     }
 }

@@ -7,6 +7,7 @@ use mathlib.Core.Logic.{inl, inr}
 use lib.ListN.{length, getD, set}
 use lib.Seq.{getD-set-same}
 use Rattle.meaning.specs.Tests.{Has}
+use Rattle.meaning.specs.declared.Form.{Form}
 use Rattle.meaning.specs.Requests.{Effect}
 use Rattle.reading.specs.Noted.{effects, line-place, before, appended, action-in, note-line, lines-noted, effect-lines, slots, line-numbers}
 use Rattle.finding.specs.LinesHere.{effect-from, Effect-here, place-in, effects-in}
@@ -53,19 +54,19 @@ unfolding Placed-in
 placed-same t u k [] same h = tt
 placed-same t u k (e ∷ es) same h = (same (k + 1) (omega arith) ∙ h .0, placed-same t u (k + 1) es (λ i less. same i (omega arith)) (h .1))
 
-pub effects-found : (s t : List ℕ) (k : ℕ) (es : List Effect) → Placed-in t k es → ((e : Effect) → Has es e → effect-from s (e .place) ≡ e) → effects-in s t k (length es) ≡ es
+pub effects-found : (form : Form) (s t : List ℕ) (k : ℕ) (es : List Effect) → Placed-in t k es → ((e : Effect) → Has es e → effect-from form s (e .place) ≡ e) → effects-in form s t k (length es) ≡ es
 unfolding effects-in Placed-in
-effects-found s t k [] h each = refl
-effects-found s t k (e ∷ es) h each =
-    ap (λ (y : Effect). y ∷ effects-in s t (k + 1) (length es)) (ap (effect-from s) (h .0) ∙ each e (inl refl))
-    ∙ ap (λ (ys : List Effect). e ∷ ys) (effects-found s t (k + 1) es (h .1) (λ y has. each y (inr has)))
+effects-found form s t k [] h each = refl
+effects-found form s t k (e ∷ es) h each =
+    ap (λ (y : Effect). y ∷ effects-in form s t (k + 1) (length es)) (ap (effect-from form s) (h .0) ∙ each e (inl refl))
+    ∙ ap (λ (ys : List Effect). e ∷ ys) (effects-found form s t (k + 1) es (h .1) (λ y has. each y (inr has)))
 
-pub effects-fit : (s t : List ℕ) (k : ℕ) (es : List Effect) → Placed-in t k es → ((e : Effect) → Has es e → Effect-here s (e .place)) → (i : ℕ) → i < length es → Effect-here s (place-in t (k + i + 1))
+pub effects-fit : (form : Form) (s t : List ℕ) (k : ℕ) (es : List Effect) → Placed-in t k es → ((e : Effect) → Has es e → Effect-here form s (e .place)) → (i : ℕ) → i < length es → Effect-here form s (place-in t (k + i + 1))
 unfolding Placed-in
-effects-fit s t k [] h each i less = absurd (omega arith)
-effects-fit s t k (e ∷ es) h each zero less =
+effects-fit form s t k [] h each i less = absurd (omega arith)
+effects-fit form s t k (e ∷ es) h each zero less =
     let same : k + zero + 1 ≡ k + 1 = omega arith in
     rw (same, h .0) (each e (inl refl))
-effects-fit s t k (e ∷ es) h each (suc i) less =
+effects-fit form s t k (e ∷ es) h each (suc i) less =
     let same : k + 1 + i + 1 ≡ k + suc i + 1 = omega arith in
-    subst (λ (j : ℕ). Effect-here s (place-in t j)) same (effects-fit s t (k + 1) es (h .1) (λ y has. each y (inr has)) i (omega arith))
+    subst (λ (j : ℕ). Effect-here form s (place-in t j)) same (effects-fit form s t (k + 1) es (h .1) (λ y has. each y (inr has)) i (omega arith))

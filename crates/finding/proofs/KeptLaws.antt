@@ -13,7 +13,7 @@ use Rattle.meaning.specs.Limits.{format}
 use Rattle.meaning.specs.Requests.{Sequence}
 use Rattle.meaning.proofs.TestLaws.{by-test, pick-true, pick-false}
 use Rattle.bytes.specs.Bits.{with-bit}
-use Rattle.meaning.specs.declared.Form.the-variants.{Flags}
+use Rattle.meaning.specs.declared.Form.{Form}
 use Rattle.reading.specs.Noted.{Section, effects, executability, knowledge, Line, effect-lines, run-lines, before, appended, raised, word-bits, pair-slot, bit-noted, pair-noted, action-in, note-line, none-yet, lines-noted, count-slot, section-noted, sensed-from, sensed-to, sensed, line-numbers, line-slots}
 use Rattle.reading.proofs.NotesLaws.{before-most}
 use Rattle.reading.specs.Planned.{items-of, plan-noted, sequence-noted}
@@ -167,11 +167,11 @@ pub section-long : (c : Section) (xs : List (Line c)) (t : List ℕ) → length 
 unfolding section-noted
 section-long c xs t = lines-long c 0 none-yet xs (set t (count-slot c) (length xs)) ∙ length-set t (count-slot c) (length xs)
 
-pub plan-long : (p : ℕ) (t : List ℕ) (b : Sequence ℕ) → length (plan-noted Flags p t b) ≡ length t
+pub plan-long : (form : Form) (p : ℕ) (t : List ℕ) (b : Sequence ℕ) → length (plan-noted form p t b) ≡ length t
 unfolding plan-noted sequence-noted
-plan-long p t b = rest-length b (format .items) 0 0 (p + 2) t
+plan-long form p t b = rest-length form b (format .items) 0 0 (p + 2) t
 
 -- THE PLAN touches no slot of the lines.
-pub plan-kept : (j : ℕ) → effect-lines ≤ j → (p : ℕ) (t : List ℕ) (b : Sequence ℕ) → items-of b ≤ format .items → getD (plan-noted Flags p t b) j 0 ≡ getD t j 0
+pub plan-kept : (form : Form) (j : ℕ) → effect-lines ≤ j → (p : ℕ) (t : List ℕ) (b : Sequence ℕ) → items-of b ≤ format .items → getD (plan-noted form p t b) j 0 ≡ getD t j 0
 unfolding plan-noted sequence-noted
-plan-kept j far p t b h = rest-other b (format .items) 0 0 (p + 2) t j (omega arith) (λ some. (λ e. omega arith, λ e. omega arith)) (λ near _ _. omega arith)
+plan-kept form j far p t b h = rest-other form b (format .items) 0 0 (p + 2) t j (omega arith) (λ some. (λ e. omega arith, λ e. omega arith)) (λ near _ _. omega arith)

@@ -9,4 +9,5 @@ pub mod AheadLaws
 pub mod HoldsLaws
 pub mod WrittenLaws
 pub mod ReadLaws
+pub mod ValueLineLaws
 pub mod StartLaws

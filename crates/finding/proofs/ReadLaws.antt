@@ -7,26 +7,29 @@ use lib.ListN.{length, getD, set, length-set}
 use lib.Seq.{getD-set-same}
 use lib.Dec.{eqb}
 use Rattle.meaning.specs.Tests.{Has}
-use Rattle.meaning.specs.Limits.{format, all-literals}
+use Rattle.meaning.specs.Limits.{format}
 use Rattle.meaning.specs.Requests.{Effect, Executability, Knowledge, Table, Request}
 use Rattle.meaning.specs.Lines.{effects-of, executability-of}
 use Rattle.meaning.specs.Reading
+use Rattle.meaning.specs.declared.Form.{Form}
 use Rattle.meaning.specs.declared.Form.the-variants.{Flags}
-use Rattle.meaning.specs.Reading.{Got, got, fault, literals, bound-of, byte-at, count-at, below-at, list-at, body-at, effect-at, executability-at, knowledge-at, repeated, section-at, plan-at, table-at, request-at, read-request}
+use Rattle.meaning.specs.Reading.{Got, got, fault, byte-at, count-at, below-at, list-at, literals-at, body-at, effect-at, executability-at, knowledge-at, repeated, section-at, plan-at, table-at, request-at, read-request}
 use Rattle.meaning.specs.Guards.{Guarded-request, read-guarded}
 use Rattle.meaning.proofs.SettledLaws.{got-same}
 use Rattle.meaning.proofs.RangeLaws.{after-got, count-within, section-read, repeated-length}
 use Rattle.reading.specs.Noted.{effects, executability, knowledge, effect-lines, run-lines, line-place, action-in, note-line, none-yet, count-slot, section-noted, table-noted, branch-place, branch-item, sensed-from, sensed-to, plan-slot, items-slot, goals-slot, guards-slot, mode-slot, sensed, slots, effects-slot, executability-slot, knowledge-slot, line-numbers}
 use Rattle.reading.specs.Ordered.{In-order}
-use Rattle.reading.specs.Listed.{listed, List-here}
+use Rattle.reading.specs.Listed.{listed-as, Literals-here, span}
 use Rattle.reading.specs.Planned.{items-of, bytes-of, plan-noted}
-use Rattle.reading.specs.Requested.{goals-place, plan-place, places-noted, tail-with, request-with, guards-place, guarded-noted}
-use Rattle.finding.specs.LinesHere.{effect-from, Effect-here, place-in, effects-in, Effects-here, knowledge-from, knowledge-in, Knowledge-here, Acting}
+use Rattle.bytes.specs.Masks.{Counted}
+use Rattle.reading.specs.Requested.{Starts, goals-place, plan-place, places-noted, tail-with, request-with, guards-place, guarded-noted}
+use Rattle.finding.specs.LinesHere.{Consistent, effect-from, Effect-here, place-in, effects-in, Effects-here, knowledge-from, knowledge-in, Knowledge-here, Acting}
 use Rattle.reading.proofs.SectionLaws.{got-place, byte-got, number-got}
-use Rattle.reading.proofs.PlanSizes.{sequence-read, list-through}
-use Rattle.reading.proofs.RequestLaws.{placed-length}
-use Rattle.reader.proofs.WholeLaws.{Parts, parts, plain-read, guarded-read}
-use Rattle.finding.proofs.HereLaws.{list-here, effect-here}
+use Rattle.reading.proofs.PlanSizes.{sequence-read, literals-through}
+use Rattle.reading.proofs.RequestLaws.{placed-as-length, table-counted}
+use Rattle.reader.specs.Sections.{actions-place}
+use Rattle.reader.proofs.WholeLaws.{behind-values, Parts, parts, plain-read, guarded-read}
+use Rattle.finding.proofs.HereLaws.{Literals-read, literals-read, effect-here}
 use Rattle.finding.proofs.KeptLaws.{kept, Outside, appended-kept, pair-kept, section-kept, section-counted, section-long, plan-kept, plan-long}
 use Rattle.finding.proofs.ChainLaws.{section-ordered, order-same, order-some}
 use Rattle.finding.specs.PlansHeld.{Kept, Plan-held}
@@ -37,29 +40,35 @@ use Rattle.finding.proofs.WrittenLaws.{plan-held}
 use Rattle.finding.proofs.HoldsLaws.{Placed-in, effects-placed, placed-same, effects-found, effects-fit}
 use Rattle.finding.proofs.FoundLaws.{blank-long, blank-slot}
 
+starts-first : (form : Form) → Starts form 0
+unfolding Starts
+starts-first form e = refl
+
 -- THE PARTS of a table that was read up to p, and of a request with that table.
-pub record Table-parts (s : List ℕ) (t : Table) (p : ℕ) : Type 0 where
+pub record Table-parts (form : Form) (s : List ℕ) (t : Table) (p : ℕ) : Type 0 where
   pub few : t .fluents ≤ format .fluents
   pub less : t .actions ≤ format .actions
+  pub values : Counted form s
   pub effects-at : ℕ
   pub effects-end : ℕ
-  pub effects-read : section-at (effect-at format Flags (t .fluents) (t .actions) s) s effects-at ≡ got (t .effects) effects-end
+  pub effects-read : section-at (effect-at format form (t .fluents) (t .actions) s) s effects-at ≡ got (t .effects) effects-end
   pub runs-end : ℕ
-  pub runs-read : section-at (executability-at format Flags (t .fluents) (t .actions) s) s effects-end ≡ got (t .executability) runs-end
+  pub runs-read : section-at (executability-at format form (t .fluents) (t .actions) s) s effects-end ≡ got (t .executability) runs-end
   pub knowledge-read : section-at (knowledge-at format (t .fluents) (t .actions) s) s runs-end ≡ got (t .knowledge) p
 
-pub table-parts : (s : List ℕ) (t : Table) (p : ℕ) → table-at format Flags s 0 ≡ got t p → Table-parts s t p
+pub table-parts : (form : Form) (s : List ℕ) (t : Table) (p : ℕ) → table-at format form s 0 ≡ got t p → Table-parts form s t p
 unfolding table-at
-table-parts s t p e =
+table-parts form s t p e =
     after-got (count-at 1 (format .fluents) s 0) _ e λ n p₁ en u₁.
-    after-got (count-at 1 (format .actions) s p₁) _ u₁ λ m p₂ em u₂.
-    after-got (list-at literals n (format .listed) s p₂) _ u₂ λ facts p₃ _ u₃.
-    after-got (section-at (effect-at format Flags n m s) s p₃) _ u₃ λ es p₄ ees u₄.
-    after-got (section-at (executability-at format Flags n m s) s p₄) _ u₄ λ xs p₅ exs u₅.
+    after-got (count-at 1 (format .actions) s (actions-place form 0 n)) _ (behind-values s 0 n p₁ en form _ t p u₁) λ m p₂ em u₂.
+    after-got (literals-at form n (format .listed) s p₂) _ u₂ λ facts p₃ _ u₃.
+    after-got (section-at (effect-at format form n m s) s p₃) _ u₃ λ es p₄ ees u₄.
+    after-got (section-at (executability-at format form n m s) s p₄) _ u₄ λ xs p₅ exs u₅.
     after-got (section-at (knowledge-at format n m s) s p₅) _ u₅ λ ks p₆ eks u₆.
     subst on u₆ (record {
       few = count-within 1 (format .fluents) s 0 n p₁ en;
-      less = count-within 1 (format .actions) s p₁ m p₂ em;
+      less = count-within 1 (format .actions) s (actions-place form 0 n) m p₂ em;
+      values = table-counted form s 0 t p (starts-first form) e;
       effects-at = p₃;
       effects-end = p₄;
       effects-read = ees;
@@ -69,38 +78,38 @@ table-parts s t p e =
     })
   where
     on : Got Table → Type 0
-    on (got y q) = Table-parts s y q
+    on (got y q) = Table-parts form s y q
     on (fault n q) = Unit {0}
 
-pub record Request-parts (s : List ℕ) (t : Table) (p : ℕ) (y : Request) : Type 0 where
+pub record Request-parts (form : Form) (s : List ℕ) (t : Table) (p : ℕ) (y : Request) : Type 0 where
   pub table : y .table ≡ t
   pub items : ℕ
   pub plan-end : ℕ
-  pub plan-read : plan-at format Flags (t .fluents) (t .actions) s p ≡ got (record { value = y .plan; items = items }) plan-end
-  pub placed : plan-place Flags y ≡ p
+  pub plan-read : plan-at format form (t .fluents) (t .actions) s p ≡ got (record { value = y .plan; items = items }) plan-end
+  pub placed : plan-place form y ≡ p
 
-pub request-parts : (s : List ℕ) (t : Table) (p : ℕ) (y : Request) (q : ℕ) → request-at format Flags s t p ≡ got y q → Request-parts s t p y
+pub request-parts : (form : Form) (s : List ℕ) (t : Table) (p : ℕ) (y : Request) (q : ℕ) → request-at format form s t p ≡ got y q → Request-parts form s t p y
 unfolding request-at plan-place goals-place plan-at
-request-parts s t p y q e =
-    after-got (plan-at format Flags (t .fluents) (t .actions) s p) _ e λ plan q₁ eplan v₁.
-    after-got (list-at literals (t .fluents) (format .listed) s q₁) _ v₁ λ goals q₂ egoals v₂.
+request-parts form s t p y q e =
+    after-got (plan-at format form (t .fluents) (t .actions) s p) _ e λ plan q₁ eplan v₁.
+    after-got (literals-at form (t .fluents) (format .listed) s q₁) _ v₁ λ goals q₂ egoals v₂.
     after-got (list-at Reading.fluents (t .fluents) (format .listed) s q₂) _ v₂ λ whether q₃ _ v₃.
-    let sized = sequence-read Flags (t .fluents) (t .actions) s 8 p 0 (omega arith) .holds plan q₁ eplan in
-    let through = list-through s literals (t .fluents) (format .listed) q₁ .holds goals q₂ egoals in
+    let sized = sequence-read form (t .fluents) (t .actions) s 8 p 0 (omega arith) .holds plan q₁ eplan in
+    let through = literals-through s form (t .fluents) (format .listed) q₁ .holds goals q₂ egoals in
     let after = sized .through .after in
     let ends = through .after in
-    let goals-at : q₂ - (1 + length goals) ≡ q₁ = omega arith in
-    let plan-stands : q₁ - (2 + bytes-of Flags (plan .value)) ≡ p = omega arith in
+    let goals-at : q₂ - (1 + span form (length goals)) ≡ q₁ = omega arith in
+    let plan-stands : q₁ - (2 + bytes-of form (plan .value)) ≡ p = omega arith in
     subst on v₃ (record {
       table = refl;
       items = plan .items;
       plan-end = q₁;
       plan-read = eplan;
-      placed = rw (placed-length (q₁ + 1) goals, goals-at) plan-stands;
+      placed = rw (placed-as-length form (q₁ + 1) goals, goals-at) plan-stands;
     })
   where
     on : Got Request → Type 0
-    on (got x i) = Request-parts s t p x
+    on (got x i) = Request-parts form s t p x
     on (fault n i) = Unit {0}
 
 -- How many lines a section has.
@@ -110,47 +119,46 @@ section-length line s p xs q e =
     after-got (byte-at s p) _ e λ c i ec e′.
     repeated-length line c i xs q e′ ∙ sym (byte-got s p c i ec .1)
 
-acts : (s : List ℕ) (e : Effect) → effect-from s (e .place) ≡ e → getD s (e .place) 0 ≡ e .action
+acts : (form : Form) (s : List ℕ) (e : Effect) → effect-from form s (e .place) ≡ e → getD s (e .place) 0 ≡ e .action
 unfolding effect-from
-acts s e is = ap (λ (y : Effect). y .action) is
+acts form s e is = ap (λ (y : Effect). y .action) is
 
 -- WHAT THE LINES SAY: actions within the limit, and where each stands.
-module _ (s : List ℕ) (t : Table) (p : ℕ) (whole : Table-parts s t p) where
-  pub effect-good : (e : Effect) → Has (t .effects) e → (effect-from s (e .place) ≡ e) × Effect-here s (e .place)
+module _ {form : Form} (s : List ℕ) (t : Table) (p : ℕ) (whole : Table-parts form s t p) where
+  pub effect-good : (e : Effect) → Has (t .effects) e → (effect-from form s (e .place) ≡ e) × Effect-here form s (e .place)
   effect-good e has =
-      let w = section-read (effect-at format Flags (t .fluents) (t .actions) s) s (whole .effects-at) (t .effects) (whole .effects-end) (whole .effects-read) e has in
-      effect-here (t .fluents) (t .actions) s (whole .few) (whole .less) (w .0) e (w .1) (w .2)
+      let w = section-read (effect-at format form (t .fluents) (t .actions) s) s (whole .effects-at) (t .effects) (whole .effects-end) (whole .effects-read) e has in
+      effect-here form (t .fluents) (t .actions) s (whole .few) (whole .less) (whole .values) (w .0) e (w .1) (w .2)
 
   pub effect-acts : (e : Effect) → Has (t .effects) e → e .action < format .actions
   effect-acts e has =
       let good = effect-good e has in
-      let is : getD s (e .place) 0 ≡ e .action = acts s e (good .0) in
+      let is : getD s (e .place) 0 ≡ e .action = acts form s e (good .0) in
       let small = good .1 .action in
       omega arith
 
   pub run-good : (r : Executability) → Has (t .executability) r → r .action < format .actions
   unfolding executability-at
   run-good r has =
-      let w = section-read (executability-at format Flags (t .fluents) (t .actions) s) s (whole .effects-end) (t .executability) (whole .runs-end) (whole .runs-read) r has in
+      let w = section-read (executability-at format form (t .fluents) (t .actions) s) s (whole .effects-end) (t .executability) (whole .runs-end) (whole .runs-read) r has in
       after-got (below-at (t .actions) s (w .0)) _ (w .2) λ a i ea e₁.
-      after-got (body-at format Flags (t .fluents) s i) _ e₁ λ b j _ e₂.
+      after-got (body-at format form (t .fluents) s i) _ e₁ λ b j _ e₂.
       let small = number-got (t .actions) s (w .0) a i ea .3 in
       let most = whole .less in
       let is : a ≡ r .action = ap (λ (y : Executability). y .action) (got-same e₂) in
       omega arith
 
-  pub run-stands : (r : Executability) → Has (t .executability) r → (listed s (r .place + 1) ≡ r .body) × List-here all-literals s (r .place + 1)
-  unfolding executability-at body-at bound-of
+  pub run-stands : (r : Executability) → Has (t .executability) r → (listed-as form s (r .place + 1) ≡ r .body) × Literals-here form s (r .place + 1) × Consistent form s (r .body)
+  unfolding executability-at body-at
   run-stands r has =
-      let w = section-read (executability-at format Flags (t .fluents) (t .actions) s) s (whole .effects-end) (t .executability) (whole .runs-end) (whole .runs-read) r has in
+      let w = section-read (executability-at format form (t .fluents) (t .actions) s) s (whole .effects-end) (t .executability) (whole .runs-end) (whole .runs-read) r has in
       after-got (below-at (t .actions) s (w .0)) _ (w .2) λ a i ea e₁.
-      after-got (body-at format Flags (t .fluents) s i) _ e₁ λ b j eb e₂.
+      after-got (body-at format form (t .fluents) s i) _ e₁ λ b j eb e₂.
       let after : w .0 + 1 ≡ i = number-got (t .actions) s (w .0) a i ea .2 in
-      let body = list-here literals (t .fluents) s 16 i b j eb in
-      let few = whole .few in
+      let body = subst (λ (z : ℕ). Literals-read form s z b) (sym after) (literals-read form (t .fluents) 16 s (whole .few) (whole .values) i b j eb) in
       let is : record { place = w .0; action = a; body = b } ≡ r = got-same e₂ in
-      subst (λ (y : Executability). (listed s (y .place + 1) ≡ y .body) × List-here all-literals s (y .place + 1)) is
-      (rw after (body .0, body .1 all-literals (omega arith)))
+      subst (λ (y : Executability). (listed-as form s (y .place + 1) ≡ y .body) × Literals-here form s (y .place + 1) × Consistent form s (y .body)) is
+      (body .is, body .here, body .apart)
 
   pub knowledge-good : (k : Knowledge) → Has (t .knowledge) k → k .action < format .actions
   unfolding knowledge-at
@@ -187,12 +195,12 @@ counts-apart j far near = record {
   other = (λ e. omega arith, λ e. omega arith, λ e. omega arith, λ e. omega arith, λ e. omega arith);
 }
 
-module _ (s : List ℕ) (bytes : (i : ℕ) → getD s i 0 < 256) (x : Table) (p : ℕ) (whole : Table-parts s x p) where
+module _ {form : Form} (s : List ℕ) (bytes : (i : ℕ) → getD s i 0 < 256) (x : Table) (p : ℕ) (whole : Table-parts form s x p) where
   pub effects-few : length (x .effects) < line-numbers
-  effects-few = rw (section-length (effect-at format Flags (x .fluents) (x .actions) s) s (whole .effects-at) (x .effects) (whole .effects-end) (whole .effects-read)) (bytes (whole .effects-at))
+  effects-few = rw (section-length (effect-at format form (x .fluents) (x .actions) s) s (whole .effects-at) (x .effects) (whole .effects-end) (whole .effects-read)) (bytes (whole .effects-at))
 
   pub runs-few : length (x .executability) < line-numbers
-  runs-few = rw (section-length (executability-at format Flags (x .fluents) (x .actions) s) s (whole .effects-end) (x .executability) (whole .runs-end) (whole .runs-read)) (bytes (whole .effects-end))
+  runs-few = rw (section-length (executability-at format form (x .fluents) (x .actions) s) s (whole .effects-end) (x .executability) (whole .runs-end) (whole .runs-read)) (bytes (whole .effects-end))
 
   pub knowledge-few : length (x .knowledge) < line-numbers
   knowledge-few = rw (section-length (knowledge-at format (x .fluents) (x .actions) s) s (whole .runs-end) (x .knowledge) p (whole .knowledge-read)) (bytes (whole .runs-end))
@@ -305,15 +313,15 @@ module _ (s : List ℕ) (bytes : (i : ℕ) → getD s i 0 < 256) (x : Table) (p 
         after-effects (effect-lines + i) (lines-apart (effect-lines + i) (omega arith) (omega arith)) (λ m h e. omega arith) (λ e. omega arith))
         (effects-placed 0 none-yet (x .effects) (set blank effects-slot (length (x .effects))) (length-set blank effects-slot (length (x .effects)) ∙ blank-long) (omega (arith, effects-few)))
 
-    pub effects-are : effects-in s u 0 (length (x .effects)) ≡ x .effects
-    effects-are = effects-found s u 0 (x .effects) placed-effects (λ e has. effect-good s x p whole e has .0)
+    pub effects-are : effects-in form s u 0 (length (x .effects)) ≡ x .effects
+    effects-are = effects-found form s u 0 (x .effects) placed-effects (λ e has. effect-good s x p whole e has .0)
 
-    pub effects-stand : Effects-here s u (length (x .effects))
+    pub effects-stand : Effects-here form s u (length (x .effects))
     effects-stand = record {
       line = λ i less.
           let same : 0 + i + 1 ≡ i + 1 = omega arith in
-          subst (λ (j : ℕ). Effect-here s (place-in u j)) same
-          (effects-fit s u 0 (x .effects) placed-effects (λ e has. effect-good s x p whole e has .1) i less);
+          subst (λ (j : ℕ). Effect-here form s (place-in u j)) same
+          (effects-fit form s u 0 (x .effects) placed-effects (λ e has. effect-good s x p whole e has .1) i less);
     }
 
     -- THE LINES OF AN ACTION.
@@ -345,100 +353,100 @@ module _ (s : List ℕ) (bytes : (i : ℕ) → getD s i 0 < 256) (x : Table) (p 
     }
 
 -- SECTIONS 6 TO 8, over any table and any notes, with guards at a place.
-module _ (s : List ℕ) (x : Table) (few : x .fluents ≤ format .fluents) (less : x .actions ≤ format .actions) (p : ℕ) (y : Request) (q : ℕ) (read : request-at format Flags s x p ≡ got y q) (t : List ℕ) (g : ℕ) where
-  of-request : Request-parts s x p y
-  of-request = request-parts s x p y q read
+module _ (form : Form) (s : List ℕ) (x : Table) (few : x .fluents ≤ format .fluents) (less : x .actions ≤ format .actions) (values : Counted form s) (p : ℕ) (y : Request) (q : ℕ) (read : request-at format form s x p ≡ got y q) (t : List ℕ) (g : ℕ) where
+  of-request : Request-parts form s x p y
+  of-request = request-parts form s x p y q read
 
   items-most : (of-request .items ≡ items-of (y .plan)) × (items-of (y .plan) ≤ format .items)
   unfolding plan-at
   items-most =
-      let sized = sequence-read Flags (x .fluents) (x .actions) s 8 p 0 (omega arith) .holds (record { value = y .plan; items = of-request .items }) (of-request .plan-end) (of-request .plan-read) in
+      let sized = sequence-read form (x .fluents) (x .actions) s 8 p 0 (omega arith) .holds (record { value = y .plan; items = of-request .items }) (of-request .plan-end) (of-request .plan-read) in
       let a = sized .counted in let b = sized .most in
       (omega arith, omega arith)
 
   planned : List ℕ
-  planned = plan-noted Flags (plan-place Flags y) t (y .plan)
+  planned = plan-noted form (plan-place form y) t (y .plan)
 
   abbrev placed-plan : List ℕ
-  placed-plan = set planned plan-slot (plan-place Flags y)
+  placed-plan = set planned plan-slot (plan-place form y)
 
   abbrev placed-items : List ℕ
   placed-items = set placed-plan items-slot (items-of (y .plan))
 
   abbrev placed-goals : List ℕ
-  placed-goals = set placed-items goals-slot (goals-place Flags y)
+  placed-goals = set placed-items goals-slot (goals-place form y)
 
-  tail-is : tail-with Flags g y t ≡ set placed-goals guards-slot g
+  tail-is : tail-with form g y t ≡ set placed-goals guards-slot g
   unfolding tail-with places-noted planned
   tail-is = refl
 
-  slot-in : (j v : ℕ) → (j ≡ guards-slot → ⊥) → getD placed-goals j 0 ≡ v → getD (tail-with Flags g y t) j 0 ≡ v
+  slot-in : (j v : ℕ) → (j ≡ guards-slot → ⊥) → getD placed-goals j 0 ≡ v → getD (tail-with form g y t) j 0 ≡ v
   slot-in j v other is = ap (λ (u : List ℕ). getD u j 0) tail-is ∙ kept placed-goals guards-slot j g other ∙ is
 
-  before-places : (j : ℕ) → (j ≡ plan-slot → ⊥) × (j ≡ items-slot → ⊥) × (j ≡ goals-slot → ⊥) × (j ≡ guards-slot → ⊥) → getD (tail-with Flags g y t) j 0 ≡ getD planned j 0
+  before-places : (j : ℕ) → (j ≡ plan-slot → ⊥) × (j ≡ items-slot → ⊥) × (j ≡ goals-slot → ⊥) × (j ≡ guards-slot → ⊥) → getD (tail-with form g y t) j 0 ≡ getD planned j 0
   before-places j other =
       slot-in j _ (other .3)
-      (kept placed-items goals-slot j (goals-place Flags y) (other .2) ∙ kept placed-plan items-slot j (items-of (y .plan)) (other .1) ∙ kept planned plan-slot j (plan-place Flags y) (other .0))
+      (kept placed-items goals-slot j (goals-place form y) (other .2) ∙ kept placed-plan items-slot j (items-of (y .plan)) (other .1) ∙ kept planned plan-slot j (plan-place form y) (other .0))
 
   -- They leave the table as it was.
-  pub tail-kept : (j : ℕ) → Of-table j → getD (tail-with Flags g y t) j 0 ≡ getD t j 0
+  pub tail-kept : (j : ℕ) → Of-table j → getD (tail-with form g y t) j 0 ≡ getD t j 0
   unfolding planned
   tail-kept j of =
       before-places j (of .other)
-      ∙ plan-kept j (of .far) (plan-place Flags y) t (y .plan) (items-most .1)
+      ∙ plan-kept form j (of .far) (plan-place form y) t (y .plan) (items-most .1)
 
   module _ (sized : length t ≡ slots) where
     planned-long : length planned ≡ slots
     unfolding planned
-    planned-long = plan-long (plan-place Flags y) t (y .plan) ∙ sized
+    planned-long = plan-long form (plan-place form y) t (y .plan) ∙ sized
 
     plan-long-too : length placed-plan ≡ slots
-    plan-long-too = length-set planned plan-slot (plan-place Flags y) ∙ planned-long
+    plan-long-too = length-set planned plan-slot (plan-place form y) ∙ planned-long
 
     items-long : length placed-items ≡ slots
     items-long = length-set placed-plan items-slot (items-of (y .plan)) ∙ plan-long-too
 
     goals-long : length placed-goals ≡ slots
-    goals-long = length-set placed-items goals-slot (goals-place Flags y) ∙ items-long
+    goals-long = length-set placed-items goals-slot (goals-place form y) ∙ items-long
 
-    pub tail-long : length (tail-with Flags g y t) ≡ slots
+    pub tail-long : length (tail-with form g y t) ≡ slots
     tail-long = ap length tail-is ∙ length-set placed-goals guards-slot g ∙ goals-long
 
-    pub items-noted : getD (tail-with Flags g y t) items-slot 0 ≡ items-of (y .plan)
+    pub items-noted : getD (tail-with form g y t) items-slot 0 ≡ items-of (y .plan)
     items-noted =
-        slot-in items-slot _ (λ e. omega arith) (kept placed-items goals-slot items-slot (goals-place Flags y) (λ e. omega arith)
+        slot-in items-slot _ (λ e. omega arith) (kept placed-items goals-slot items-slot (goals-place form y) (λ e. omega arith)
         ∙ getD-set-same placed-plan items-slot (items-of (y .plan)) 0 (omega (arith, plan-long-too)))
 
-    pub plan-noted-at : getD (tail-with Flags g y t) plan-slot 0 ≡ plan-place Flags y
+    pub plan-noted-at : getD (tail-with form g y t) plan-slot 0 ≡ plan-place form y
     plan-noted-at =
-        slot-in plan-slot _ (λ e. omega arith) (kept placed-items goals-slot plan-slot (goals-place Flags y) (λ e. omega arith)
+        slot-in plan-slot _ (λ e. omega arith) (kept placed-items goals-slot plan-slot (goals-place form y) (λ e. omega arith)
         ∙ kept placed-plan items-slot plan-slot (items-of (y .plan)) (λ e. omega arith)
-        ∙ getD-set-same planned plan-slot (plan-place Flags y) 0 (omega (arith, planned-long)))
+        ∙ getD-set-same planned plan-slot (plan-place form y) 0 (omega (arith, planned-long)))
 
-    pub goals-noted : getD (tail-with Flags g y t) goals-slot 0 ≡ goals-place Flags y
-    goals-noted = slot-in goals-slot _ (λ e. omega arith) (getD-set-same placed-items goals-slot (goals-place Flags y) 0 (omega (arith, items-long)))
+    pub goals-noted : getD (tail-with form g y t) goals-slot 0 ≡ goals-place form y
+    goals-noted = slot-in goals-slot _ (λ e. omega arith) (getD-set-same placed-items goals-slot (goals-place form y) 0 (omega (arith, items-long)))
 
-    pub guards-noted : getD (tail-with Flags g y t) guards-slot 0 ≡ g
+    pub guards-noted : getD (tail-with form g y t) guards-slot 0 ≡ g
     guards-noted = ap (λ (u : List ℕ). getD u guards-slot 0) tail-is ∙ getD-set-same placed-goals guards-slot g 0 (omega (arith, goals-long))
 
     -- 18 finds the plan.
-    pub tail-held : Plan-held s (tail-with Flags g y t) (y .plan)
+    pub tail-held : Plan-held form s (tail-with form g y t) (y .plan)
     unfolding planned
     tail-held =
-        let held = plan-held (x .fluents) (x .actions) s few less p t (record { value = y .plan; items = of-request .items }) (of-request .plan-end) (omega (arith, sized)) (of-request .plan-read) in
-        let same : (j : ℕ) → j < effect-lines → getD (tail-with Flags g y t) j 0 ≡ getD (plan-noted Flags (plan-place Flags y) t (y .plan)) j 0 = λ j near.
+        let held = plan-held form (x .fluents) (x .actions) s few less values p t (record { value = y .plan; items = of-request .items }) (of-request .plan-end) (omega (arith, sized)) (of-request .plan-read) in
+        let same : (j : ℕ) → j < effect-lines → getD (tail-with form g y t) j 0 ≡ getD (plan-noted form (plan-place form y) t (y .plan)) j 0 = λ j near.
         before-places j (λ e. omega arith, λ e. omega arith, λ e. omega arith, λ e. omega arith) in
         let small = held .few in
         record {
           few = small;
           written = held .written;
-          kept = kept-agree (y .plan) 0 (plan-noted Flags (plan-place Flags y) t (y .plan)) (tail-with Flags g y t)
+          kept = kept-agree form (y .plan) 0 (plan-noted form (plan-place form y) t (y .plan)) (tail-with form g y t)
               (record {
                 places = λ j _ less. same (0 + j) (omega arith);
                 ends = λ j _ less. same (branch-place + j) (omega arith);
                 counts = λ j _ less. same (branch-item + j) (omega arith);
               })
-              (subst (λ (i : ℕ). Kept (plan-noted Flags i t (y .plan)) 0 (y .plan)) (sym (of-request .placed)) (held .kept));
+              (subst (λ (i : ℕ). Kept form (plan-noted form i t (y .plan)) 0 (y .plan)) (sym (of-request .placed)) (held .kept));
         }
 
 -- KNOWLEDGE LINES stand one after another, two bytes each.
@@ -485,77 +493,77 @@ module _ (n m : ℕ) (s : List ℕ) (less : m ≤ format .actions) where
       rw (start, counted) (lines .0, record { ends = omega (arith, lines .2); acts = lines .3 }, omega arith)
 
 -- THE TABLE AT THE START of an input, and its executability lines.
-pub table-is : (s : List ℕ) (x : Table) (p : ℕ) → table-at format Flags s 0 ≡ got x p → table-in s ≡ x
+pub table-is : (form : Form) (s : List ℕ) (x : Table) (p : ℕ) → table-at format form s 0 ≡ got x p → table-in form s ≡ x
 unfolding table-in table-of
-table-is s x p read = ap table-of read
+table-is form s x p read = ap table-of read
 
-module _ (s t : List ℕ) (here : Table-here s t) where
-  pub whole-table : Table-parts s (table-in s) (here .table-end)
-  whole-table = table-parts s (table-in s) (here .table-end) (here .table)
+module _ {form : Form} (s t : List ℕ) (here : Table-here form s t) where
+  pub whole-table : Table-parts form s (table-in form s) (here .table-end)
+  whole-table = table-parts form s (table-in form s) (here .table-end) (here .table)
 
-  pub runs-here : Runs-here s t
+  pub runs-here : Runs-here form s t
   runs-here = record {
-    order = runs-ordered s (here .bytes) (table-in s) (here .table-end) whole-table t (here .noted);
-    line = run-stands s (table-in s) (here .table-end) whole-table;
+    order = runs-ordered s (here .bytes) (table-in form s) (here .table-end) whole-table t (here .noted);
+    line = run-stands s (table-in form s) (here .table-end) whole-table;
   }
 
   -- A plan that is noted leaves the table there.
-  pub table-stays : (g p : ℕ) (y : Request) (q : ℕ) → request-at format Flags s (table-in s) p ≡ got y q → Table-here s (tail-with Flags g y t)
+  pub table-stays : (g p : ℕ) (y : Request) (q : ℕ) → request-at format form s (table-in form s) p ≡ got y q → Table-here form s (tail-with form g y t)
   table-stays g p y q read = record {
     bytes = here .bytes;
     short = here .short;
     table-end = here .table-end;
     table = here .table;
-    sized = tail-long s (table-in s) (whole-table .few) (whole-table .less) p y q read t g (here .sized);
-    noted = λ j of. tail-kept s (table-in s) (whole-table .few) (whole-table .less) p y q read t g j of ∙ here .noted j of;
+    sized = tail-long form s (table-in form s) (whole-table .few) (whole-table .less) (whole-table .values) p y q read t g (here .sized);
+    noted = λ j of. tail-kept form s (table-in form s) (whole-table .few) (whole-table .less) (whole-table .values) p y q read t g j of ∙ here .noted j of;
   }
 
 -- A table that was noted into notes that held nothing is there.
-module _ (s : List ℕ) (bytes : (i : ℕ) → getD s i 0 < 256) (short : length s ≤ format .request) (x : Table) (p : ℕ) (read : table-at format Flags s 0 ≡ got x p) where
-  pub table-comes : Table-here s (table-noted x blank)
+module _ (form : Form) (s : List ℕ) (bytes : (i : ℕ) → getD s i 0 < 256) (short : length s ≤ format .request) (x : Table) (p : ℕ) (read : table-at format form s 0 ≡ got x p) where
+  pub table-comes : Table-here form s (table-noted x blank)
   unfolding table-noted
   table-comes = record {
     bytes = bytes;
     short = short;
     table-end = p;
-    table = read ∙ ap (λ (z : Table). got z p) (sym (table-is s x p read));
+    table = read ∙ ap (λ (z : Table). got z p) (sym (table-is form s x p read));
     sized =
         section-long knowledge (x .knowledge) (section-noted executability (x .executability) (section-noted effects (x .effects) blank))
         ∙ section-long executability (x .executability) (section-noted effects (x .effects) blank)
         ∙ section-long effects (x .effects) blank
         ∙ blank-long;
-    noted = λ j of. ap (λ (z : Table). getD (table-noted z blank) j 0) (sym (table-is s x p read));
+    noted = λ j of. ap (λ (z : Table). getD (table-noted z blank) j 0) (sym (table-is form s x p read));
   }
 
 -- A REQUEST that was read: its table, noted into notes that held nothing, is there, and the rest was read behind it.
-module _ (s : List ℕ) (bytes : (i : ℕ) → getD s i 0 < 256) (t : List ℕ) (here : Read-here s t) where
-  pub read-parts : Parts Flags s (here .request) (here .end)
-  read-parts = parts Flags s (here .request) (here .end) (here .reads)
+module _ {form : Form} (s : List ℕ) (bytes : (i : ℕ) → getD s i 0 < 256) (t : List ℕ) (here : Read-here form s t) where
+  pub read-parts : Parts form s (here .request) (here .end)
+  read-parts = parts form s (here .request) (here .end) (here .reads)
 
-  pub read-comes : Table-here s (table-noted (here .request .table) blank)
-  read-comes = table-comes s bytes (here .short) (here .request .table) (read-parts .place) (read-parts .table-read)
+  pub read-comes : Table-here form s (table-noted (here .request .table) blank)
+  read-comes = table-comes form s bytes (here .short) (here .request .table) (read-parts .place) (read-parts .table-read)
 
-  pub read-same : table-in s ≡ here .request .table
-  read-same = table-is s (here .request .table) (read-parts .place) (read-parts .table-read)
+  pub read-same : table-in form s ≡ here .request .table
+  read-same = table-is form s (here .request .table) (read-parts .place) (read-parts .table-read)
 
-  pub read-tail : request-at format Flags s (table-in s) (read-parts .place) ≡ got (here .request) (here .end)
-  read-tail = ap (λ (z : Table). request-at format Flags s z (read-parts .place)) read-same ∙ read-parts .tail-read
+  pub read-tail : request-at format form s (table-in form s) (read-parts .place) ≡ got (here .request) (here .end)
+  read-tail = ap (λ (z : Table). request-at format form s z (read-parts .place)) read-same ∙ read-parts .tail-read
 
   -- The notes are what its table leaves, and then the rest.
-  pub read-noted : t ≡ tail-with Flags (here .guards) (here .request) (table-noted (here .request .table) blank)
+  pub read-noted : t ≡ tail-with form (here .guards) (here .request) (table-noted (here .request .table) blank)
   unfolding request-with
   read-noted = here .noted
 
 -- It is there when it was read whole, without guards or with them.
 module _ (s t : List ℕ) where
-  abbrev pub plain-here : (x : Request) (e : ℕ) → read-request format Flags s ≡ got x e → t ≡ request-with Flags 0 x blank → Read-here s t
-  plain-here x e is noted = record { request = x; end = e; guards = 0; short = plain-read s Flags x e is .0; reads = plain-read s Flags x e is .1; noted = noted }
+  abbrev pub plain-here : (form : Form) (x : Request) (e : ℕ) → read-request format form s ≡ got x e → t ≡ request-with form 0 x blank → Read-here form s t
+  plain-here form x e is noted = record { request = x; end = e; guards = 0; short = plain-read s form x e is .0; reads = plain-read s form x e is .1; noted = noted }
 
   pub with-guards : (g : Guarded-request) → t ≡ guarded-noted g blank → t ≡ request-with Flags (guards-place (g .request)) (g .request) blank
   unfolding guarded-noted
   with-guards g noted = noted
 
-  abbrev pub guarded-here : (g : Guarded-request) (e : ℕ) → read-guarded format s ≡ got g e → t ≡ guarded-noted g blank → Read-here s t
+  abbrev pub guarded-here : (g : Guarded-request) (e : ℕ) → read-guarded format s ≡ got g e → t ≡ guarded-noted g blank → Read-here Flags s t
   guarded-here g e is noted = record {
     request = g .request;
     end = guards-place (g .request);

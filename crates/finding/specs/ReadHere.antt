@@ -6,16 +6,16 @@ use lib.ListN.{length}
 use Rattle.meaning.specs.Limits.{format}
 use Rattle.meaning.specs.Requests.{Request}
 use Rattle.meaning.specs.Reading.{got}
-use Rattle.meaning.specs.declared.Form.the-variants.{Flags}
+use Rattle.meaning.specs.declared.Form.{Form}
 use Rattle.reading.specs.Requested.{request-with}
-use Rattle.reader.specs.Sections.{sections-read}
+use Rattle.reader.specs.Sections.{sections-as}
 use Rattle.finding.specs.TablesHere.{blank}
 
 -- All eight sections of a request were read, into notes that held nothing before, with guards at a place, 0 for none.
-pub record Read-here (s t : List ℕ) : Type 0 where
+pub record Read-here (form : Form) (s t : List ℕ) : Type 0 where
   pub request : Request
   pub end : ℕ
   pub guards : ℕ
   pub short : length s ≤ format .request
-  pub reads : sections-read s 0 ≡ got request end
-  pub noted : t ≡ request-with Flags guards request blank
+  pub reads : sections-as form s 0 ≡ got request end
+  pub noted : t ≡ request-with form guards request blank

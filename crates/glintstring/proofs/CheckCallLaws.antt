@@ -40,7 +40,7 @@ use Rattle.glintstring.specs.CheckCalls.{too-many, check-at-hand}
 use Rattle.glintstring.proofs.SettledAtHand.{settled-got, settled-held}
 
 -- THE WHETHER LIST stands behind the goals.
-pub whether-inside : (s t : List ℕ) → At-hand s t → (goals : ℕ) → goals ≡ getD t goals-slot 0 → (whether : ℕ) → whether ≡ sequence-place s goals → whether < length s
+pub whether-inside : (s t : List ℕ) → At-hand Flags s t → (goals : ℕ) → goals ≡ getD t goals-slot 0 → (whether : ℕ) → whether ≡ sequence-place Flags s goals → whether < length s
 whether-inside s t here goals slot whether after = let ends = whether-here s t here goals slot whether after .ends in omega arith
 
 -- What a layout does not speak of.
@@ -63,40 +63,40 @@ unfolding beyond too-many
 beyond-by-count Plain r = asked-by-count (r .whether)
 beyond-by-count Closing r = refl
 
-module _ (s t : List ℕ) (here : At-hand s t) (layout : Layout) (d : List ℕ) (goals : ℕ) (slot : goals ≡ getD t goals-slot 0) (whether : ℕ) (after : whether ≡ sequence-place s goals) (asked : ℕ) (count : asked ≡ getD s whether 0)
+module _ (s t : List ℕ) (here : At-hand Flags s t) (layout : Layout) (d : List ℕ) (goals : ℕ) (slot : goals ≡ getD t goals-slot 0) (whether : ℕ) (after : whether ≡ sequence-place Flags s goals) (asked : ℕ) (count : asked ≡ getD s whether 0)
     (refused : Bool) (many : refused ≡ too-many layout asked) where
-  asked-long : length (request-in s t .whether) ≡ asked
+  asked-long : length (request-in Flags s t .whether) ≡ asked
   unfolding request-in
   asked-long =
-      placed-length (whether-in s t + 1) (listed s (whether-in s t))
-      ∙ listed-length s (whether-in s t)
+      placed-length (whether-in Flags s t + 1) (listed s (whether-in Flags s t))
+      ∙ listed-length s (whether-in Flags s t)
       ∙ ap (λ (p : ℕ). getD s p 0) (sym (is-whether s t here goals slot whether after))
       ∙ sym count
 
-  pub beyond-is : beyond layout (request-in s t) ≡ refused
-  beyond-is = beyond-by-count layout (request-in s t) ∙ ap (too-many layout) asked-long ∙ sym many
+  pub beyond-is : beyond layout (request-in Flags s t) ≡ refused
+  beyond-is = beyond-by-count layout (request-in Flags s t) ∙ ap (too-many layout) asked-long ∙ sym many
 
   -- 30.
-  pub check-30 : refused ≡ true → record { number = 30; input = 1; place = whether; count = 0 } ≡ check-at-hand layout (request-in s t) d
+  pub check-30 : refused ≡ true → record { number = 30; input = 1; place = whether; count = 0 } ≡ check-at-hand layout (request-in Flags s t) d
   unfolding check-at-hand check-settled answer request-in
   check-30 told =
       ap (λ (p : ℕ). answer 30 1 p) (is-whether s t here goals slot whether after) ∙ sym (pick-true _ _ _ (beyond-is ∙ told))
 
   module _ (clear : refused ≡ false) where
-    check-goes : check-at-hand layout (request-in s t) d ≡ accepted-if (check-derivation format layout (request-in s t) d)
+    check-goes : check-at-hand layout (request-in Flags s t) d ≡ accepted-if (check-derivation format layout (request-in Flags s t) d)
     unfolding check-at-hand check-settled
     check-goes = pick-false _ _ _ (beyond-is ∙ clear)
 
-    module _ (r : Passed) (is : r ≡ passed (check-derivation format layout (request-in s t) d)) where
+    module _ (r : Passed) (is : r ≡ passed (check-derivation format layout (request-in Flags s t) d)) where
       -- Accepted.
-      pub check-accepts : (e : ℕ) → r ≡ To e → record { number = 0; input = 0; place = 0; count = 0 } ≡ check-at-hand layout (request-in s t) d
+      pub check-accepts : (e : ℕ) → r ≡ To e → record { number = 0; input = 0; place = 0; count = 0 } ≡ check-at-hand layout (request-in Flags s t) d
       unfolding accepted-if answer
-      check-accepts e passes = sym (check-goes ∙ ap accepted-if (passed-to (check-derivation format layout (request-in s t) d) e (sym is ∙ passes) .1))
+      check-accepts e passes = sym (check-goes ∙ ap accepted-if (passed-to (check-derivation format layout (request-in Flags s t) d) e (sym is ∙ passes) .1))
 
       -- Refused.
-      pub check-refuses : (k p : ℕ) → r ≡ Stop k p → record { number = k; input = 2; place = p; count = 0 } ≡ check-at-hand layout (request-in s t) d
+      pub check-refuses : (k p : ℕ) → r ≡ Stop k p → record { number = k; input = 2; place = p; count = 0 } ≡ check-at-hand layout (request-in Flags s t) d
       unfolding accepted-if answer
-      check-refuses k p stops = sym (check-goes ∙ ap accepted-if (passed-stop (check-derivation format layout (request-in s t) d) k p (sym is ∙ stops)))
+      check-refuses k p stops = sym (check-goes ∙ ap accepted-if (passed-stop (check-derivation format layout (request-in Flags s t) d) k p (sym is ∙ stops)))
 
 -- THE CALLS.
 module _ (layout : Layout) (s d t u : List ℕ) (r : Passed) (settles : outcome r u ≡ noting (request-noted Flags) (settled format s) t) where
@@ -104,7 +104,7 @@ module _ (layout : Layout) (s d t u : List ℕ) (r : Passed) (settles : outcome 
   unfolding check check-settled answer
   check-settled-first k p stops = sym (ap (check-settled format layout d) (noting-fault (request-noted Flags) (settled format s) r t u settles k p stops))
 
-  pub check-then : (e : ℕ) → r ≡ To e → ((i : ℕ) → Fits w8 (getD s i 0)) → t ≡ blank → (a : Answer) → a ≡ check-at-hand layout (request-in s u) d → a ≡ check format layout s d
+  pub check-then : (e : ℕ) → r ≡ To e → ((i : ℕ) → Fits w8 (getD s i 0)) → t ≡ blank → (a : Answer) → a ≡ check-at-hand layout (request-in Flags s u) d → a ≡ check format layout s d
   unfolding check check-at-hand check-settled
   check-then e passes bytes empty a is =
       is

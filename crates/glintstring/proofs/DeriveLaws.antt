@@ -36,12 +36,13 @@ use Rattle.finding.specs.Branches.{sequence-place}
 use Rattle.finding.specs.TablesHere.{blank}
 use Rattle.steps.specs.Held.{guards-in, request-in}
 use Rattle.steps.specs.AtHand.{At-hand}
-use Rattle.steps.specs.Steps.{narrow-mode, mode-in, walk-held}
+use Rattle.steps.specs.Steps.{narrow-mode, mode-in, form-in, walk-held}
 use Rattle.steps.proofs.HandLaws.{is-whether}
 use Rattle.steps.proofs.ModeLaws.{held-plain, held-narrow}
 use Rattle.steps.proofs.ModeHand.{new-mode, same-request, same-guarded, hand-stays}
 use Rattle.schemes.specs.declared.scheme.Size.{Size}
 use Rattle.schemes.specs.Sizes.{Measured}
+use Rattle.verdicts.proofs.WalkedLaws.{flags-mode}
 use Rattle.glintstring.specs.CheckCalls.{too-many}
 use Rattle.glintstring.proofs.SettledAtHand.{settled-got, settled-held}
 use Rattle.glintstring.proofs.CheckCallLaws.{beyond-is}
@@ -101,19 +102,19 @@ module _ (ls : List Line) (size : Size) (measured : Measured ls size) where
 
 -- THE TWO WALKS of what is held, by their answers. The mode is a slot of its own, so what is held is the same request.
 module _ (s t lent left : List ℕ) (budget : ℕ) (a : Answer) where
-  pub plain-answer : record { answer = a; state = left } ≡ within lent budget (walk-held s t) → guards-in s t ≡ [] → mode-in t ≡ 0 → a ≡ within [] budget (Judging.walk-of format (request-in s t)) .answer
+  pub plain-answer : record { answer = a; state = left } ≡ within lent budget (walk-held Flags s t) → guards-in s t ≡ [] → mode-in t ≡ 0 → a ≡ within [] budget (Judging.walk-of format (request-in Flags s t)) .answer
   unfolding request-in
   plain-answer walks unguarded known =
-      ap (λ (j : Judgement). j .answer) walks ∙ within-unread lent [] budget (walk-held s t) ∙ ap (λ (w : Walked State). within [] budget w .answer) (held-plain s t known unguarded)
+      ap (λ (j : Judgement). j .answer) walks ∙ within-unread lent [] budget (walk-held Flags s t) ∙ ap (λ (w : Walked State). within [] budget w .answer) (held-plain s t known unguarded)
 
-  pub narrow-answer : (u : List ℕ) → u ≡ set t mode-slot narrow-mode → length t ≡ slots → record { answer = a; state = left } ≡ within lent budget (walk-held s u) → guards-in s t ≡ []
-      → a ≡ within [] budget (narrow-walk-of format (request-in s t)) .answer
+  pub narrow-answer : (u : List ℕ) → u ≡ set t mode-slot narrow-mode → length t ≡ slots → record { answer = a; state = left } ≡ within lent budget (walk-held Flags s u) → guards-in s t ≡ []
+      → a ≡ within [] budget (narrow-walk-of format (request-in Flags s t)) .answer
   narrow-answer u put sized walks unguarded =
-      let mode : mode-in u ≡ narrow-mode = ap mode-in put ∙ new-mode s t narrow-mode sized in
-      let none : guards-in s u ≡ [] = ap (guards-in s) put ∙ same-guarded s t narrow-mode ∙ unguarded in
+      let mode : mode-in u ≡ narrow-mode = ap mode-in put ∙ new-mode Flags s t narrow-mode sized in
+      let none : guards-in s u ≡ [] = ap (guards-in s) put ∙ same-guarded Flags s t narrow-mode ∙ unguarded in
       ap (λ (j : Judgement). j .answer) walks
-      ∙ within-unread lent [] budget (walk-held s u)
-      ∙ ap (λ (w : Walked State). within [] budget w .answer) (held-narrow s u mode none ∙ ap (narrow-walk-of format) (ap (request-in s) put ∙ same-request s t narrow-mode))
+      ∙ within-unread lent [] budget (walk-held Flags s u)
+      ∙ ap (λ (w : Walked State). within [] budget w .answer) (held-narrow s u mode none ∙ ap (narrow-walk-of format) (ap (request-in Flags s) put ∙ same-request Flags s t narrow-mode))
 
 -- Where the second walk answers 0, it ends with nothing missed.
 pub narrow-fine : (x : Request) (budget : ℕ) (a : Answer) → a ≡ within [] budget (narrow-walk-of format x) .answer → a .number ≡ 0 → Verified (narrow-walk-of format x)
@@ -150,49 +151,52 @@ module _ (x : Request) (room : List ℕ) (budget : ℕ) (a : Answer) where
           is ∙ sym (pick-false _ _ _ none ∙ pick-true _ _ _ verified ∙ pick-true _ _ _ (eq-eqb _ _ (ap (λ (b : Answer). b .number) (sym narrow) ∙ good-too)))
 
 -- OF WHAT IS HELD, by the two walks of it: the second goes by notes with another mode.
-pub narrow-hand : (s t : List ℕ) → At-hand s t → (u : List ℕ) → u ≡ set t mode-slot 2 → At-hand s u
-narrow-hand s t here u put = rw put (hand-stays s t 2 here)
+pub narrow-hand : (s t : List ℕ) → At-hand Flags s t → (u : List ℕ) → u ≡ set t mode-slot 2 → At-hand Flags s u
+narrow-hand s t here u put = rw put (hand-stays Flags s t 2 here)
+
+pub narrow-form : (s t : List ℕ) → At-hand Flags s t → length t ≡ slots → (u : List ℕ) → u ≡ set t mode-slot 2 → form-in u ≡ Flags
+narrow-form s t here sized u put = flags-mode u 2 (ap mode-in put ∙ new-mode Flags s t 2 sized) refl
 
 pub narrow-verified : (s t : List ℕ) (budget : ℕ) → guards-in s t ≡ [] → length t ≡ slots → (u : List ℕ) → u ≡ set t mode-slot 2 → (lent left : List ℕ) (v : Answer)
-    → record { answer = v; state = left } ≡ within lent budget (walk-held s u) → v .number ≡ 0 → Verified (narrow-walk-of format (request-in s u))
+    → record { answer = v; state = left } ≡ within lent budget (walk-held Flags s u) → v .number ≡ 0 → Verified (narrow-walk-of format (request-in Flags s u))
 narrow-verified s t budget unguarded sized u put lent left v walks none =
-    rw (ap (request-in s) put ∙ same-request s t 2) (narrow-fine (request-in s t) budget v (narrow-answer s t lent left budget v u put sized walks unguarded) none)
+    rw (ap (request-in Flags s) put ∙ same-request Flags s t 2) (narrow-fine (request-in Flags s t) budget v (narrow-answer s t lent left budget v u put sized walks unguarded) none)
 
-module _ (s t room : List ℕ) (budget : ℕ) (none : beyond Plain (request-in s t) ≡ false) (unguarded : guards-in s t ≡ []) (known : mode-in t ≡ 0) (lent left : List ℕ) (w : Answer)
-    (walks : record { answer = w; state = left } ≡ within lent budget (walk-held s t)) where
-  plain : w ≡ within [] budget (Judging.walk-of format (request-in s t)) .answer
+module _ (s t room : List ℕ) (budget : ℕ) (none : beyond Plain (request-in Flags s t) ≡ false) (unguarded : guards-in s t ≡ []) (known : mode-in t ≡ 0) (lent left : List ℕ) (w : Answer)
+    (walks : record { answer = w; state = left } ≡ within lent budget (walk-held Flags s t)) where
+  plain : w ≡ within [] budget (Judging.walk-of format (request-in Flags s t)) .answer
   plain = plain-answer s t lent left budget w walks unguarded known
 
-  pub walked-stops : (w .number ≡ 0 → ⊥) → record { answer = w; room = room } ≡ derive-got format room budget (got (request-in s t) 0)
-  walked-stops = derived-stopped (request-in s t) room budget w none plain
+  pub walked-stops : (w .number ≡ 0 → ⊥) → record { answer = w; room = room } ≡ derive-got format room budget (got (request-in Flags s t) 0)
+  walked-stops = derived-stopped (request-in Flags s t) room budget w none plain
 
-  module _ (good : w .number ≡ 0) (sized : length t ≡ slots) (u : List ℕ) (put : u ≡ set t mode-slot 2) (lent′ left′ : List ℕ) (v : Answer) (again : record { answer = v; state = left′ } ≡ within lent′ budget (walk-held s u)) where
-    narrow : v ≡ within [] budget (narrow-walk-of format (request-in s t)) .answer
+  module _ (good : w .number ≡ 0) (sized : length t ≡ slots) (u : List ℕ) (put : u ≡ set t mode-slot 2) (lent′ left′ : List ℕ) (v : Answer) (again : record { answer = v; state = left′ } ≡ within lent′ budget (walk-held Flags s u)) where
+    narrow : v ≡ within [] budget (narrow-walk-of format (request-in Flags s t)) .answer
     narrow = narrow-answer s t lent′ left′ budget v u put sized again unguarded
 
-    same : request-in s u ≡ request-in s t
-    same = ap (request-in s) put ∙ same-request s t 2
+    same : request-in Flags s u ≡ request-in Flags s t
+    same = ap (request-in Flags s) put ∙ same-request Flags s t 2
 
-    pub walked-wide : (v .number ≡ 0 → ⊥) → record { answer = v; room = room } ≡ derive-got format room budget (got (request-in s t) 0)
-    walked-wide = derived-wide (request-in s t) room budget v none w plain good narrow
+    pub walked-wide : (v .number ≡ 0 → ⊥) → record { answer = v; room = room } ≡ derive-got format room budget (got (request-in Flags s t) 0)
+    walked-wide = derived-wide (request-in Flags s t) room budget v none w plain good narrow
 
-    pub walked-written : v .number ≡ 0 → (a : Answer) (after : List ℕ) → record { answer = a; room = after } ≡ write-lines format room (derivation-of format (request-in s u))
-        → record { answer = a; room = after } ≡ derive-got format room budget (got (request-in s t) 0)
+    pub walked-written : v .number ≡ 0 → (a : Answer) (after : List ℕ) → record { answer = a; room = after } ≡ write-lines format room (derivation-of format (request-in Flags s u))
+        → record { answer = a; room = after } ≡ derive-got format room budget (got (request-in Flags s t) 0)
     walked-written zero-too a after is =
-        derived-written (request-in s t) room budget a none w plain good v narrow zero-too after (is ∙ ap (λ (x : Request). write-lines format room (derivation-of format x)) same)
+        derived-written (request-in Flags s t) room budget a none w plain good v narrow zero-too after (is ∙ ap (λ (x : Request). write-lines format room (derivation-of format x)) same)
 
 -- 30, by the count of the whether list, which stands behind the goals.
-module _ (s t : List ℕ) (here : At-hand s t) (goals : ℕ) (slot : goals ≡ getD t goals-slot 0) (whether : ℕ) (after : whether ≡ sequence-place s goals) (asked : ℕ) (count : asked ≡ getD s whether 0) where
-  by-count : beyond Plain (request-in s t) ≡ ltb 0 asked
+module _ (s t : List ℕ) (here : At-hand Flags s t) (goals : ℕ) (slot : goals ≡ getD t goals-slot 0) (whether : ℕ) (after : whether ≡ sequence-place Flags s goals) (asked : ℕ) (count : asked ≡ getD s whether 0) where
+  by-count : beyond Plain (request-in Flags s t) ≡ ltb 0 asked
   unfolding too-many
   by-count = beyond-is s t here Plain [] goals slot whether after asked count (ltb 0 asked) refl
 
-  pub some-asked : (room : List ℕ) (budget : ℕ) (a : Answer) → 0 < asked → a ≡ record { number = 30; input = 1; place = whether; count = 0 } → record { answer = a; room = room } ≡ derive-got format room budget (got (request-in s t) 0)
+  pub some-asked : (room : List ℕ) (budget : ℕ) (a : Answer) → 0 < asked → a ≡ record { number = 30; input = 1; place = whether; count = 0 } → record { answer = a; room = room } ≡ derive-got format room budget (got (request-in Flags s t) 0)
   unfolding request-in
   some-asked room budget a some is =
-      derived-30 (request-in s t) room budget a (by-count ∙ lt-ltb 0 asked some) (is ∙ ap (λ (p : ℕ). record { number = 30; input = 1; place = p; count = 0 }) (is-whether s t here goals slot whether after))
+      derived-30 (request-in Flags s t) room budget a (by-count ∙ lt-ltb 0 asked some) (is ∙ ap (λ (p : ℕ). record { number = 30; input = 1; place = p; count = 0 }) (is-whether s t here goals slot whether after))
 
-  pub none-asked : asked ≤ 0 → beyond Plain (request-in s t) ≡ false
+  pub none-asked : asked ≤ 0 → beyond Plain (request-in Flags s t) ≡ false
   none-asked none = by-count ∙ le-ltb 0 asked none
 
 -- THE CALL.
@@ -202,7 +206,7 @@ module _ (s room : List ℕ) (budget : ℕ) (a : Answer) (t u : List ℕ) (r : P
   derive-refused k p stops is =
       ap (λ (b : Answer). record { answer = b; room = room }) is ∙ sym (ap (derive-got format room budget) (noting-fault (request-noted Flags) (settled format s) r t u settles k p stops))
 
-  pub derive-so : (e : ℕ) → r ≡ To e → ((j : ℕ) → Fits w8 (getD s j 0)) → t ≡ blank → (left : List ℕ) → record { answer = a; room = left } ≡ derive-got format room budget (got (request-in s u) 0)
+  pub derive-so : (e : ℕ) → r ≡ To e → ((j : ℕ) → Fits w8 (getD s j 0)) → t ≡ blank → (left : List ℕ) → record { answer = a; room = left } ≡ derive-got format room budget (got (request-in Flags s u) 0)
       → record { answer = a; room = left } ≡ derive format s room budget
   unfolding derive derive-got
   derive-so e passes bytes empty left is =

@@ -14,6 +14,7 @@ use Rattle.meaning.specs.Judging.{Judgement, judge}
 use Rattle.meaning.specs.Guards.{judge-guarded}
 use Rattle.meaning.specs.ByCases.{judge-by-cases}
 use Rattle.meaning.specs.Indexes.{Built, build, judge-indexed}
+use Rattle.meaning.specs.Valued.{judge-values}
 use Rattle.meaning.specs.Derivations.{check}
 use Rattle.meaning.specs.Schemes.{derive}
 use Rattle.meaning.specs.Releases.{Released, release}
@@ -23,6 +24,7 @@ use Rattle.meaning.proofs.GuardedAnswers.{guarded-place-limited}
 use Rattle.meaning.proofs.CaseAnswers.{cases-place-limited}
 use Rattle.meaning.proofs.IndexBuilt.{index-place-limited}
 use Rattle.meaning.proofs.IndexAnswers.{indexed-place-limited}
+use Rattle.meaning.proofs.ValueAnswers.{values-place-limited}
 use Rattle.meaning.proofs.DeriveAnswers.{derive-place-limited}
 use Rattle.meaning.proofs.ReleaseLaws.{own-place-limited}
 use Rattle.glintstring.specs.Packing.{packed}
@@ -65,6 +67,9 @@ module _ (a : Answer) (left : List ℕ) where
   pub indexed-small : (s i lent : List ℕ) (budget : ℕ) → ((j : ℕ) → Fits w8 (getD s j 0)) → record { answer = a; state = left } ≡ judge-indexed format s i lent budget → a .place < 65536
   indexed-small s i lent budget bytes judges =
       let most = indexed-place-limited s (λ j. bytes j .fits) i lent budget in subst (λ (j : Judgement). j .answer .place < 65536) (sym judges) (omega (arith, most))
+
+  pub values-small : (s lent : List ℕ) (budget : ℕ) → record { answer = a; state = left } ≡ judge-values format s lent budget → a .place < 65536
+  values-small s lent budget judges = let most = values-place-limited format s lent budget in subst (λ (j : Judgement). j .answer .place < 65536) (sym judges) (omega (arith, most))
 
   module _ (judged : Judgement) (judges : record { answer = a; state = left } ≡ judged) where
     pub judged-packed : (r : ℕ) → r ≡ packed a → r ≡ packed (judged .answer)

@@ -5,11 +5,13 @@ ghost use Rattle.meaning.specs.Limits.{format};
 ghost use Rattle.steps.specs.Held.{request-in};
 ghost use Rattle.steps.specs.AtHand.{At-hand};
 ghost use Rattle.glintstring.specs.CheckCalls.{too-many, check-at-hand};
+ghost use Rattle.meaning.specs.declared.Form.the-variants.{Flags};
 use bytes::bytes::wide;
 use bytes::lists::Passed;
 use checking::check::check_derivation;
 use finding::branches::sequence_of;
 use meaning::Answer;
+use meaning::Form;
 use meaning::Layout;
 use reading::notes;
 use reading::notes::Notes;
@@ -29,11 +31,11 @@ fn is_beyond(layout: Layout, asked: usize) -> bool
 
 // 30, and then the derivation, of a settled request.
 fn check_at_hand(layout: Layout, request: &[u8], t: &Notes, derivation: &[u8]) -> Answer
-    requires { ⌜ At-hand (now request) (now t) ⌝ }
-    ensures { λ r. ⌜ r ≡ check-at-hand layout (request-in (now (request .entry)) (now (t .entry))) (now (derivation .entry)) ⌝ }
+    requires { ⌜ At-hand Flags (now request) (now t) ⌝ }
+    ensures { λ r. ⌜ r ≡ check-at-hand layout (request-in Flags (now (request .entry)) (now (t .entry))) (now (derivation .entry)) ⌝ }
 {
     let goals = get(t, notes::GOALS);
-    let whether = sequence_of(request, goals);
+    let whether = sequence_of(Form::Flags, request, goals);
     let asked = wide(request[whether]);
     let refused = is_beyond(layout, asked);
     if refused {

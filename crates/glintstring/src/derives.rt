@@ -13,11 +13,13 @@ ghost use Rattle.reading.specs.Noted.{slots};
 ghost use Rattle.steps.specs.Held.{guards-in, request-in};
 ghost use Rattle.steps.specs.AtHand.{At-hand};
 ghost use Rattle.steps.specs.Steps.{mode-in};
+ghost use Rattle.meaning.specs.declared.Form.the-variants.{Flags};
 use bytes::bytes::wide;
 use bytes::limits;
 use bytes::lists::Passed;
 use finding::branches::sequence_of;
 use meaning::Answer;
+use meaning::Form;
 use reading::notes;
 use reading::notes::Notes;
 use reading::notes::get;
@@ -32,9 +34,9 @@ use verdicts::walked::walk_plan;
 
 // The lines of a request whose walk is fine go to the room, where they fit: 38 and 39 are known before the first is written.
 fn write_lines(request: &[u8], t: &Notes, room: &mut [u8]) -> Answer
-    requires { ⌜ At-hand (now request) (now t) ⌝ }
-    requires { ⌜ Verified (narrow-walk-of format (request-in (now request) (now t))) ⌝ }
-    ensures { λ r. ⌜ record { answer = r; room = now (room .exit) } ≡ write-lines format (now (room .entry)) (derivation-of format (request-in (now (request .entry)) (now (t .entry)))) ⌝ }
+    requires { ⌜ At-hand Flags (now request) (now t) ⌝ }
+    requires { ⌜ Verified (narrow-walk-of format (request-in Flags (now request) (now t))) ⌝ }
+    ensures { λ r. ⌜ record { answer = r; room = now (room .exit) } ≡ write-lines format (now (room .entry)) (derivation-of format (request-in Flags (now (request .entry)) (now (t .entry)))) ⌝ }
 {
     let size = measure(request, t);
     let lines = size.lines;
@@ -59,12 +61,12 @@ fn write_lines(request: &[u8], t: &Notes, room: &mut [u8]) -> Answer
 
 // The walk of a request at hand without whether entries, and once more with the steps that are too wide refused; then its lines.
 fn derive_walked(request: &[u8], t: &mut Notes, room: &mut [u8], budget: u32) -> Answer
-    requires { ⌜ At-hand (now request) (now t) ⌝ }
+    requires { ⌜ At-hand Flags (now request) (now t) ⌝ }
     requires { ⌜ guards-in (now request) (now t) ≡ [] ⌝ }
     requires { ⌜ mode-in (now t) ≡ 0 ⌝ }
     requires { ⌜ length (now t) ≡ slots ⌝ }
-    requires { ⌜ beyond Plain (request-in (now request) (now t)) ≡ false ⌝ }
-    ensures { λ r. ⌜ record { answer = r; room = now (room .exit) } ≡ derive-got format (now (room .entry)) budget (got (request-in (now (request .entry)) (now (t .entry))) 0) ⌝ }
+    requires { ⌜ beyond Plain (request-in Flags (now request) (now t)) ≡ false ⌝ }
+    ensures { λ r. ⌜ record { answer = r; room = now (room .exit) } ≡ derive-got format (now (room .entry)) budget (got (request-in Flags (now (request .entry)) (now (t .entry))) 0) ⌝ }
 {
     let mut state = [0u8; limits::FLUENTS];
     let walked = walk_plan(request, t, &mut state, budget);
@@ -81,14 +83,14 @@ fn derive_walked(request: &[u8], t: &mut Notes, room: &mut [u8], budget: u32) ->
 
 // 30, and then the derivation, of a settled request.
 fn derive_at_hand(request: &[u8], t: &mut Notes, room: &mut [u8], budget: u32) -> Answer
-    requires { ⌜ At-hand (now request) (now t) ⌝ }
+    requires { ⌜ At-hand Flags (now request) (now t) ⌝ }
     requires { ⌜ guards-in (now request) (now t) ≡ [] ⌝ }
     requires { ⌜ mode-in (now t) ≡ 0 ⌝ }
     requires { ⌜ length (now t) ≡ slots ⌝ }
-    ensures { λ r. ⌜ record { answer = r; room = now (room .exit) } ≡ derive-got format (now (room .entry)) budget (got (request-in (now (request .entry)) (now (t .entry))) 0) ⌝ }
+    ensures { λ r. ⌜ record { answer = r; room = now (room .exit) } ≡ derive-got format (now (room .entry)) budget (got (request-in Flags (now (request .entry)) (now (t .entry))) 0) ⌝ }
 {
     let goals = get(t, notes::GOALS);
-    let whether = sequence_of(request, goals);
+    let whether = sequence_of(Form::Flags, request, goals);
     let asked = wide(request[whether]);
     if 0 < asked {
         return uncounted(answers::WHETHER_ASKED, answers::THE_REQUEST, whether);

@@ -7,6 +7,7 @@ ghost use Rattle.meaning.specs.Judging.{judge};
 ghost use Rattle.meaning.specs.Guards.{judge-guarded};
 ghost use Rattle.meaning.specs.ByCases.{judge-by-cases};
 ghost use Rattle.meaning.specs.Indexes.{build, judge-indexed};
+ghost use Rattle.meaning.specs.Valued.{judge-values};
 ghost use Rattle.meaning.specs.Asking;
 ghost use Rattle.meaning.specs.Derivations.{check};
 ghost use Rattle.meaning.specs.Schemes.{derive};
@@ -21,6 +22,7 @@ use super::judging::judge;
 use super::judging::judge_by_cases;
 use super::judging::judge_guarded;
 use super::judging::judge_indexed;
+use super::judging::judge_values;
 use meaning::Answer;
 use verdicts::answers;
 use verdicts::releasing::plans;
@@ -80,6 +82,15 @@ pub extern "C" fn glintstring_judge_indexed(
 {
     let judged = judge_indexed(request, index, state, budget);
     pack(judged.answer)
+}
+
+// The values call (FORMAT 26.1), with its answer in one number. It may be called with anything.
+#[no_mangle]
+pub extern "C" fn glintstring_judge_values(request: &[u8], state: &mut [u8], budget: u32) -> u64
+    ensures { λ r. ⌜ r ≡ packed (judge-values format (now (request .entry)) (now (state .entry)) budget .answer) ⌝ }
+    ensures { λ _. ⌜ now (state .exit) ≡ judge-values format (now (request .entry)) (now (state .entry)) budget .state ⌝ }
+{
+    pack(judge_values(request, state, budget))
 }
 
 // The index call (FORMAT 23.6), with its answer in one number. It may be called with anything.

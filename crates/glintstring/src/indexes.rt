@@ -5,6 +5,7 @@ ghost use Rattle.meaning.specs.Reading.{got};
 ghost use Rattle.meaning.specs.Indexes.{build-got, build};
 ghost use Rattle.finding.specs.TablesHere.{Table-here};
 ghost use Rattle.steps.specs.Held.{request-in};
+ghost use Rattle.meaning.specs.declared.Form.the-variants.{Flags};
 use bytes::lists::Passed;
 use indexing::building::index_length;
 use indexing::building::put_index;
@@ -17,8 +18,8 @@ use verdicts::answers::uncounted;
 
 // The index of a settled request goes to the room, where it fits.
 fn write_index(request: &[u8], t: &Notes, room: &mut [u8]) -> Answer
-    requires { ⌜ Table-here (now request) (now t) ⌝ }
-    ensures { λ r. ⌜ record { answer = r; room = now (room .exit) } ≡ build-got (now (room .entry)) (got (request-in (now (request .entry)) (now (t .entry))) 0) ⌝ }
+    requires { ⌜ Table-here Flags (now request) (now t) ⌝ }
+    ensures { λ r. ⌜ record { answer = r; room = now (room .exit) } ≡ build-got (now (room .entry)) (got (request-in Flags (now (request .entry)) (now (t .entry))) 0) ⌝ }
 {
     let length = index_length(request, t);
     if room.len() < length {

@@ -6,6 +6,7 @@ ghost use Rattle.meaning.specs.Asking.{line-at};
 ghost use Rattle.steps.specs.Held.{table-in};
 ghost use Rattle.steps.specs.AtHand.{At-hand};
 ghost use Rattle.glintstring.specs.Missing.{Item-byte};
+ghost use Rattle.meaning.specs.declared.Form.the-variants.{Flags};
 use bytes::bytes::wide;
 use bytes::limits;
 use meaning::Runs;
@@ -37,10 +38,10 @@ fn marks_in(state: &[u8]) -> Marks
 
 // The line of the item at this place, in the state that was left: that which asking names, and none of a branching.
 pub(crate) fn line_at(request: &[u8], t: &Notes, place: usize, state: &[u8]) -> u32
-    requires { ⌜ At-hand (now request) (now t) ⌝ }
+    requires { ⌜ At-hand Flags (now request) (now t) ⌝ }
     requires { ⌜ Item-byte (now request) place ⌝ }
     requires { ⌜ length (now state) ≡ format .state ⌝ }
-    ensures { λ r. ⌜ r ≡ line-at (table-in (now (request .entry))) (getD (now (request .entry)) place 0) (now (state .entry)) ⌝ }
+    ensures { λ r. ⌜ r ≡ line-at (table-in Flags (now (request .entry))) (getD (now (request .entry)) place 0) (now (state .entry)) ⌝ }
 {
     if request[place] == limits::BRANCHING_BYTE {
         return 0;

@@ -30,7 +30,7 @@ use Rattle.steps.specs.AtHand.{At-hand, Marked}
 use Rattle.steps.specs.Rests.{rest-at, start, Position}
 use Rattle.steps.proofs.HandLaws.{facts-here, few-items}
 use Rattle.steps.proofs.ToldMarks.{marked-as}
-use Rattle.steps.proofs.FirstLaws.{rest-first, first-is, at-is, starts-there}
+use Rattle.steps.proofs.FirstLaws.{rest-first, first-flags, at-is, starts-there}
 use Rattle.glintstring.proofs.SettledAtHand.{settled-got, settled-at-hand, settled-held}
 use Rattle.guidance.specs.declared.Told.{Told}
 use Rattle.guidance.specs.declared.Told.the-variants.{Do, Done, Refused}
@@ -52,44 +52,44 @@ module _ (x y : Bool) (there : Bool) (says : there ≡ x) where
   unfolding both
   not-there not = ap (λ (b : Bool). both b y) (sym (sym says ∙ not))
 
-module _ (s t : List ℕ) (at : ℕ) (marks : State) (going : Bool) (says : going ≡ both (is-position (plan-in s t) at) (is-marked marks)) (is : going ≡ true) where
-  pub going-position : At-hand s t → Position (plan-in s t) at
-  going-position here = position-passes (plan-in s t) at (few-items s t here) (both-left _ _ (sym says ∙ is))
+module _ (s t : List ℕ) (at : ℕ) (marks : State) (going : Bool) (says : going ≡ both (is-position (plan-in Flags s t) at) (is-marked marks)) (is : going ≡ true) where
+  pub going-position : At-hand Flags s t → Position (plan-in Flags s t) at
+  going-position here = position-passes (plan-in Flags s t) at (few-items s t here) (both-left _ _ (sym says ∙ is))
 
   pub going-marked : length marks ≡ format .state → Marked marks
-  going-marked sized = marks-pass marks sized (both-right (is-position (plan-in s t) at) _ (sym says ∙ is))
+  going-marked sized = marks-pass marks sized (both-right (is-position (plan-in Flags s t) at) _ (sym says ∙ is))
 
 -- THE FLUENTS that are asked for.
-pub asked-after : (s : List ℕ) (a : ℕ) (x : Fluents) → a < format .actions → x ≡ fluents-of (sensed format (table-in s) a) → x ≡ fluents-of (asked-by (table-in s) a)
+pub asked-after : (s : List ℕ) (a : ℕ) (x : Fluents) → a < format .actions → x ≡ fluents-of (sensed format (table-in Flags s) a) → x ≡ fluents-of (asked-by (table-in Flags s) a)
 asked-after s a x small is = is ∙ ap fluents-of (sym (asked-some s a small))
 
-pub none-after : (s : List ℕ) (a : ℕ) (x : Fluents) → format .actions ≤ a → x ≡ fluents-of [] → x ≡ fluents-of (asked-by (table-in s) a)
+pub none-after : (s : List ℕ) (a : ℕ) (x : Fluents) → format .actions ≤ a → x ≡ fluents-of [] → x ≡ fluents-of (asked-by (table-in Flags s) a)
 none-after s a x large is = is ∙ ap fluents-of (sym (asked-none s a large))
 
 -- A REQUEST that was read again, and settled.
 module _ (s t u : List ℕ) (r : Passed) (settles : outcome r u ≡ noting (request-noted Flags) (settled format s) t) where
   module _ (e : ℕ) (passes : r ≡ To e) (bytes : (i : ℕ) → Fits w8 (getD s i 0)) (empty : t ≡ blank) where
-    reads : settled format s ≡ got (request-in s u) e
+    reads : settled format s ≡ got (request-in Flags s u) e
     reads = settled-got s t u r settles e passes .1 ∙ ap (λ (x : Request). got x e) (sym (settled-held s t u r settles e passes bytes empty))
 
     pub settled-facts : List-here all-literals s 2
     settled-facts = facts-here s u (settled-at-hand s t u r settles e passes bytes empty)
 
     module _ (a at : ℕ) (marks : State) where
-      held-as : guide-held s a at marks ≡ guide-got a at marks (got (request-in s u) e)
+      held-as : guide-held s a at marks ≡ guide-got a at marks (got (request-in Flags s u) e)
       unfolding guide-held
       held-as = ap (guide-got a at marks) reads
 
-      held-going : both (is-position (plan-in s u) at) (is-marked marks) ≡ true → guide-held s a at marks ≡ on-the-way s u a at marks
+      held-going : both (is-position (plan-in Flags s u) at) (is-marked marks) ≡ true → guide-held s a at marks ≡ on-the-way s u a at marks
       unfolding guide-got on-the-way request-in
       held-going is = held-as ∙ pick-true _ _ _ is
 
-      held-refused : both (is-position (plan-in s u) at) (is-marked marks) ≡ false → guide-held s a at marks ≡ refusing (of-guide not-verified)
+      held-refused : both (is-position (plan-in Flags s u) at) (is-marked marks) ≡ false → guide-held s a at marks ≡ refusing (of-guide not-verified)
       unfolding guide-got request-in
       held-refused not = held-as ∙ pick-false _ _ _ not
 
-      held-there : Position (plan-in s u) at → Marked marks → guide-held s a at marks ≡ on-the-way s u a at marks
-      held-there position marked = held-going (both-true _ _ (passes-position (plan-in s u) at position) (pass-marks marks marked))
+      held-there : Position (plan-in Flags s u) at → Marked marks → guide-held s a at marks ≡ on-the-way s u a at marks
+      held-there position marked = held-going (both-true _ _ (passes-position (plan-in Flags s u) at position) (pass-marks marks marked))
 
     -- What a call makes of it.
     called-after : (g : Guide) (x : Step) (told : Told) → Goes-after s u x told → guide-after (guide-held s) g x told ≡ guide-after (on-the-way s u) g x told
@@ -102,7 +102,7 @@ module _ (s t u : List ℕ) (r : Passed) (settles : outcome r u ≡ noting (requ
     unfolding turned
     called-turned g x goes = ap (λ (h : Guide). record { guide = h; told = x .told }) (called-after g x (x .told) goes)
 
-    module _ (a at : ℕ) (marks : State) (goes : Bool) (says : goes ≡ both (is-position (plan-in s u) at) (is-marked marks)) where
+    module _ (a at : ℕ) (marks : State) (goes : Bool) (says : goes ≡ both (is-position (plan-in Flags s u) at) (is-marked marks)) where
       pub called-going : goes ≡ true → (bytes : List ℕ) (x : Step) → Turns s u x (takes s u a at marks bytes)
           → turned (guide-held s) (guide-held s a at marks) x ≡ next format (guide-held s a at marks) bytes
       unfolding next on-the-way takes
@@ -118,7 +118,7 @@ module _ (s t u : List ℕ) (r : Passed) (settles : outcome r u ≡ noting (requ
           ∙ ap (λ (g : Guide). record { guide = g; told = Refused (of-guide not-verified) }) refused
           ∙ ap (λ (g : Guide). next format g bytes) (sym refused)
 
-      pub asked-going : goes ≡ true → (x : Fluents) → x ≡ fluents-of (asked-by (table-in s) a) → x ≡ fluents-of (asked-for (guide-held s a at marks))
+      pub asked-going : goes ≡ true → (x : Fluents) → x ≡ fluents-of (asked-by (table-in Flags s) a) → x ≡ fluents-of (asked-for (guide-held s a at marks))
       unfolding asked-for on-the-way
       asked-going is x are = are ∙ ap (λ (g : Guide). fluents-of (asked-for g)) (sym (held-going a at marks (sym says ∙ is)))
 
@@ -128,14 +128,14 @@ module _ (s t u : List ℕ) (r : Passed) (settles : outcome r u ≡ noting (requ
 
     -- Its start.
     module _ (items at : ℕ) (counted : items ≡ getD u items-slot 0) (starts : at ≡ start items) (marks : State) (is : marks ≡ state-of format (listed s 2)) where
-      starts-going : guide-held s (format .actions) at marks ≡ going (table-in s) [] (plan-in s u) (first-state format (table-in s))
+      starts-going : guide-held s (format .actions) at marks ≡ going (table-in Flags s) [] (plan-in Flags s u) (first-state format (table-in Flags s))
       unfolding on-the-way
       starts-going =
           let here = settled-at-hand s t u r settles e passes bytes empty in
           held-there (format .actions) at marks (starts-there s u here items at counted starts) (marked-as (listed s 2) marks is)
-          ∙ ap (λ (fs : List ℕ). going (table-in s) fs (rest-at (plan-in s u) at) marks) (asked-none s (format .actions) (omega arith))
-          ∙ ap (λ (b : Sequence ℕ). going (table-in s) [] b marks) (ap (rest-at (plan-in s u)) (at-is s u here items at counted starts) ∙ rest-first (plan-in s u))
-          ∙ ap (going (table-in s) [] (plan-in s u)) (first-is s u here marks is)
+          ∙ ap (λ (fs : List ℕ). going (table-in Flags s) fs (rest-at (plan-in Flags s u) at) marks) (asked-none s (format .actions) (omega arith))
+          ∙ ap (λ (b : Sequence ℕ). going (table-in Flags s) [] b marks) (ap (rest-at (plan-in Flags s u)) (at-is s u here items at counted starts) ∙ rest-first (plan-in Flags s u))
+          ∙ ap (going (table-in Flags s) [] (plan-in Flags s u)) (first-flags s u here marks is)
 
       pub begins : Begins s (guide-held s (format .actions) at marks)
       unfolding request-in

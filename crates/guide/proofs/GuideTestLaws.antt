@@ -21,13 +21,14 @@ use Rattle.steps.specs.AtHand.{At-hand, Marked}
 use Rattle.steps.specs.Rests.{Position}
 use Rattle.steps.proofs.HandLaws.{items-are}
 use Rattle.guide.specs.GuideHeld.{is-position, is-marked}
+use Rattle.meaning.specs.declared.Form.the-variants.{Flags}
 
 -- A POSITION.
 pub end-tested : (b : Sequence ℕ) (at : ℕ) → at ≡ format .items → true ≡ is-position b at
 unfolding is-position
 end-tested b at is = sym (either-left _ _ (eq-eqb _ _ is))
 
-pub item-tested : (s t : List ℕ) → At-hand s t → (at items : ℕ) → (at ≡ format .items → ⊥) → items ≡ getD t items-slot 0 → ltb at items ≡ is-position (plan-in s t) at
+pub item-tested : (s t : List ℕ) → At-hand Flags s t → (at items : ℕ) → (at ≡ format .items → ⊥) → items ≡ getD t items-slot 0 → ltb at items ≡ is-position (plan-in Flags s t) at
 unfolding is-position either
 item-tested s t here at items other is = sym (rw (ne-eqb _ _ other, is, items-are s t here))
 

@@ -28,13 +28,14 @@ use Rattle.guide.specs.declared.going.Step.{Step}
 use Rattle.guide.specs.declared.sensed.Fluents.{Fluents}
 use Rattle.guide.specs.GuideHeld.{came, Item-there, Action-there, asked-by, fluents-of, on-the-way, guide-after, turned, meets, takes, Goes-after, Turns}
 use Rattle.guide.proofs.SensedReadLaws.{told-count}
+use Rattle.meaning.specs.declared.Form.the-variants.{Flags}
 
 -- THE FLUENTS whose readings come after an action, and none where there is no action.
-pub asked-some : (s : List ℕ) (a : ℕ) → a < format .actions → asked-by (table-in s) a ≡ sensed format (table-in s) a
+pub asked-some : (s : List ℕ) (a : ℕ) → a < format .actions → asked-by (table-in Flags s) a ≡ sensed format (table-in Flags s) a
 unfolding asked-by
 asked-some s a small = pick-true _ _ _ (lt-ltb a (format .actions) small)
 
-pub asked-none : (s : List ℕ) (a : ℕ) → format .actions ≤ a → asked-by (table-in s) a ≡ []
+pub asked-none : (s : List ℕ) (a : ℕ) → format .actions ≤ a → asked-by (table-in Flags s) a ≡ []
 unfolding asked-by
 asked-none s a large = pick-false _ _ _ (le-ltb a (format .actions) large)
 
@@ -49,7 +50,7 @@ module _ (s t : List ℕ) (r : Step) where
   refused-stays n is = record { is = λ g. ap (λ (x : Told). record { guide = guide-after (on-the-way s t) g r x; told = x }) is; goes = subst (Goes-after s t r) (sym is) tt }
 
 -- AN ACTION that is item i, at p.
-pub can-run : (s : List ℕ) (a : ℕ) (state : State) (runs : Bool) → runs ≡ can-be-run (table-in s) a state → runs ≡ true → can-be-run (table-in s) a state ≡ true
+pub can-run : (s : List ℕ) (a : ℕ) (state : State) (runs : Bool) → runs ≡ can-be-run (table-in Flags s) a state → runs ≡ true → can-be-run (table-in Flags s) a state ≡ true
 can-run s a state runs ran is = sym ran ∙ is
 
 module _ (s t : List ℕ) (i : ℕ) (there : Item-there s t i) (p : ℕ) (placed : p ≡ getD t (0 + i) 0) (a : ℕ) (is-action : a ≡ getD s p 0) where
@@ -60,13 +61,13 @@ module _ (s t : List ℕ) (i : ℕ) (there : Item-there s t i) (p : ℕ) (placed
   pub action-low : a < format .actions
   action-low = let low = there .acts in let same = action-is in omega arith
 
-  module _ (state : State) (runs : Bool) (ran : runs ≡ can-be-run (table-in s) a state) where
+  module _ (state : State) (runs : Bool) (ran : runs ≡ can-be-run (table-in Flags s) a state) where
     abbrev meets-item : Guide → Turn
-    meets-item = meets s state (an-action (action-at s t i) (after-first (rest-at (plan-in s t) i)))
+    meets-item = meets s state (an-action (action-at s t i) (after-first (rest-at (plan-in Flags s t) i)))
 
-    meets-it : (g : Guide) → meets-item g ≡ met format (table-in s) g state (an-action a (after-first (rest-at (plan-in s t) i)))
+    meets-it : (g : Guide) → meets-item g ≡ met format (table-in Flags s) g state (an-action a (after-first (rest-at (plan-in Flags s t) i)))
     unfolding meets
-    meets-it g = ap (λ (n : ℕ). met format (table-in s) g state (an-action n (after-first (rest-at (plan-in s t) i)))) action-is
+    meets-it g = ap (λ (n : ℕ). met format (table-in Flags s) g state (an-action n (after-first (rest-at (plan-in Flags s t) i)))) action-is
 
     -- It cannot be run.
     pub item-refused : runs ≡ false → (r : Step) → r .told ≡ Refused (of-guide not-verified) → Turns s t r meets-item
@@ -76,26 +77,26 @@ module _ (s t : List ℕ) (i : ℕ) (there : Item-there s t i) (p : ℕ) (placed
         record { is = λ g. refused .is g ∙ sym (meets-it g ∙ pick-false _ _ _ (sym ran ∙ not)); goes = refused .goes }
 
     -- It is answered, and the guide goes on behind it with what is known when it is done.
-    module _ (can : runs ≡ true) (at : ℕ) (follows : Followed s t i at) where
-      does-it : (marks : State) → state-done (table-in s) a state ≡ marks → Marked marks → Turns s t (record { told = Do a; action = a; at = at; marks = marks }) meets-item
+    module _ (can : runs ≡ true) (at : ℕ) (follows : Followed Flags s t i at) where
+      does-it : (marks : State) → state-done (table-in Flags s) a state ≡ marks → Marked marks → Turns s t (record { told = Do a; action = a; at = at; marks = marks }) meets-item
       unfolding met turned guide-after on-the-way Goes-after
       does-it marks done marked = record {
         is = λ g.
-            ap (λ (fs : List ℕ). record { guide = going (table-in s) fs (rest-at (plan-in s t) at) marks; told = Do a }) (asked-some s a action-low)
-            ∙ ap (λ (b : Sequence ℕ). record { guide = going (table-in s) (sensed format (table-in s) a) b marks; told = Do a }) (follows .rest)
-            ∙ ap (λ (m : State). record { guide = going (table-in s) (sensed format (table-in s) a) (after-first (rest-at (plan-in s t) i)) m; told = Do a }) (sym done)
+            ap (λ (fs : List ℕ). record { guide = going (table-in Flags s) fs (rest-at (plan-in Flags s t) at) marks; told = Do a }) (asked-some s a action-low)
+            ∙ ap (λ (b : Sequence ℕ). record { guide = going (table-in Flags s) (sensed format (table-in Flags s) a) b marks; told = Do a }) (follows .rest)
+            ∙ ap (λ (m : State). record { guide = going (table-in Flags s) (sensed format (table-in Flags s) a) (after-first (rest-at (plan-in Flags s t) i)) m; told = Do a }) (sym done)
             ∙ sym (meets-it g ∙ pick-true _ _ _ (sym ran ∙ can));
         goes = record { at = follows .at; marked = marked };
       }
 
-      module _ (senses : Bool) (says : senses ≡ sensing (table-in s) a) (marked : Marked state) where
+      module _ (senses : Bool) (says : senses ≡ sensing (table-in Flags s) a) (marked : Marked state) where
         pub item-sensing : senses ≡ true → Turns s t (record { told = Do a; action = a; at = at; marks = state }) meets-item
         unfolding state-done
         item-sensing does = does-it state (pick-true _ _ _ (sym says ∙ does)) marked
 
-        pub item-acting : senses ≡ false → (after : State) → after ≡ state-after (table-in s) a state → Turns s t (record { told = Do a; action = a; at = at; marks = after }) meets-item
+        pub item-acting : senses ≡ false → (after : State) → after ≡ state-after (table-in Flags s) a state → Turns s t (record { told = Do a; action = a; at = at; marks = after }) meets-item
         unfolding state-done
-        item-acting not after is = does-it after (pick-false _ _ _ (sym says ∙ not) ∙ sym is) (subst Marked (sym is) (marked-after (table-in s) a state marked))
+        item-acting not after is = does-it after (pick-false _ _ _ (sym says ∙ not) ∙ sym is) (subst Marked (sym is) (marked-after (table-in Flags s) a state marked))
 
 -- FROM A POSITION ON, by what comes next there.
 pub item-ahead : (s t : List ℕ) (x : Code.Ahead) → Action-there s t x → (i : ℕ) → x ≡ Action i → Item-there s t i
@@ -113,7 +114,7 @@ module _ (s t : List ℕ) (state : State) (b : Sequence ℕ) (x : Code.Ahead) (c
   unfolding came meets met turned guide-after Goes-after
   comes-end is a at = record { is = λ g. by-came End is g; goes = tt }
 
-  pub comes-action : (i : ℕ) → x ≡ Action i → (r : Step) → Turns s t r (meets s state (an-action (action-at s t i) (after-first (rest-at (plan-in s t) i)))) → Turns s t r comes-to
+  pub comes-action : (i : ℕ) → x ≡ Action i → (r : Step) → Turns s t r (meets s state (an-action (action-at s t i) (after-first (rest-at (plan-in Flags s t) i)))) → Turns s t r comes-to
   unfolding came
   comes-action i is r turns = record { is = λ g. turns .is g ∙ by-came (Action i) is g; goes = turns .goes }
 
@@ -127,12 +128,12 @@ module _ (s t : List ℕ) (a at : ℕ) (marks : State) (bytes : List ℕ) where
   answers = takes s t a at marks bytes
 
   -- By the fluents that are asked for.
-  takes-them : (fs : List ℕ) → asked-by (table-in s) a ≡ fs → (g : Guide) → take-over format (table-in s) g fs (rest-at (plan-in s t) at) marks bytes ≡ answers g
+  takes-them : (fs : List ℕ) → asked-by (table-in Flags s) a ≡ fs → (g : Guide) → take-over format (table-in Flags s) g fs (rest-at (plan-in Flags s t) at) marks bytes ≡ answers g
   unfolding takes
-  takes-them fs is g = ap (λ (asked : List ℕ). take-over format (table-in s) g asked (rest-at (plan-in s t) at) marks bytes) (sym is)
+  takes-them fs is g = ap (λ (asked : List ℕ). take-over format (table-in Flags s) g asked (rest-at (plan-in Flags s t) at) marks bytes) (sym is)
 
   -- 41, where there are more or fewer of them.
-  other-number : (fs : List ℕ) → asked-by (table-in s) a ≡ fs → (length bytes ≡ length fs → ⊥) → (r : Step) → r .told ≡ Refused (of-guide wrong-number) → Turns s t r answers
+  other-number : (fs : List ℕ) → asked-by (table-in Flags s) a ≡ fs → (length bytes ≡ length fs → ⊥) → (r : Step) → r .told ≡ Refused (of-guide wrong-number) → Turns s t r answers
   unfolding take-over
   other-number fs is other r refused =
       let stay = refused-stays s t r wrong-number refused in
@@ -140,16 +141,16 @@ module _ (s t : List ℕ) (a at : ℕ) (marks : State) (bytes : List ℕ) where
 
   -- After an action.
   module _ (small : a < format .actions) where
-    pub number-other : (due : Fluents) → due ≡ fluents-of (sensed format (table-in s) a) → (length bytes ≡ due .count → ⊥) → (r : Step) → r .told ≡ Refused (of-guide wrong-number) → Turns s t r answers
+    pub number-other : (due : Fluents) → due ≡ fluents-of (sensed format (table-in Flags s) a) → (length bytes ≡ due .count → ⊥) → (r : Step) → r .told ≡ Refused (of-guide wrong-number) → Turns s t r answers
     unfolding fluents-of
-    number-other due is other = other-number (sensed format (table-in s) a) (asked-some s a small) (λ same. other (same ∙ sym (ap (λ (x : Fluents). x .count) is)))
+    number-other due is other = other-number (sensed format (table-in Flags s) a) (asked-some s a small) (λ same. other (same ∙ sym (ap (λ (x : Fluents). x .count) is)))
 
-    module _ (due : Fluents) (are : due ≡ fluents-of (sensed format (table-in s) a)) (as-many : length bytes ≡ due .count) (wrong : Bool) (says : wrong ≡ against marks (literals-read (sensed format (table-in s) a) bytes)) where
-      takes-all : (g : Guide) → pick (against marks (literals-read (sensed format (table-in s) a) bytes)) (λ _. stays g against-known)
-          (λ _. met format (table-in s) g (told-all (literals-read (sensed format (table-in s) a) bytes) marks) (ahead (told-all (literals-read (sensed format (table-in s) a) bytes) marks) (rest-at (plan-in s t) at)))
+    module _ (due : Fluents) (are : due ≡ fluents-of (sensed format (table-in Flags s) a)) (as-many : length bytes ≡ due .count) (wrong : Bool) (says : wrong ≡ against marks (literals-read (sensed format (table-in Flags s) a) bytes)) where
+      takes-all : (g : Guide) → pick (against marks (literals-read (sensed format (table-in Flags s) a) bytes)) (λ _. stays g against-known)
+          (λ _. met format (table-in Flags s) g (told-all (literals-read (sensed format (table-in Flags s) a) bytes) marks) (ahead (told-all (literals-read (sensed format (table-in Flags s) a) bytes) marks) (rest-at (plan-in Flags s t) at)))
           ≡ answers g
       unfolding take-over
-      takes-all g = sym (pick-true _ _ _ (eq-eqb (length bytes) (length (sensed format (table-in s) a)) (told-count due (sensed format (table-in s) a) are (length bytes) as-many))) ∙ takes-them (sensed format (table-in s) a) (asked-some s a small) g
+      takes-all g = sym (pick-true _ _ _ (eq-eqb (length bytes) (length (sensed format (table-in Flags s) a)) (told-count due (sensed format (table-in Flags s) a) are (length bytes) as-many))) ∙ takes-them (sensed format (table-in Flags s) a) (asked-some s a small) g
 
       -- 42, where a reading is against what is known.
       pub reads-against : wrong ≡ true → (r : Step) → r .told ≡ Refused (of-guide against-known) → Turns s t r answers
@@ -157,18 +158,18 @@ module _ (s t : List ℕ) (a at : ℕ) (marks : State) (bytes : List ℕ) where
           let stay = refused-stays s t r against-known refused in
           record { is = λ g. stay .is g ∙ sym (pick-true _ _ _ (sym says ∙ is)) ∙ takes-all g; goes = stay .goes }
 
-      pub reads-on : wrong ≡ false → (state : State) → state ≡ told-all (literals-read (sensed format (table-in s) a) bytes) marks → (r : Step)
-          → Turns s t r (meets s state (ahead state (rest-at (plan-in s t) at))) → Turns s t r answers
+      pub reads-on : wrong ≡ false → (state : State) → state ≡ told-all (literals-read (sensed format (table-in Flags s) a) bytes) marks → (r : Step)
+          → Turns s t r (meets s state (ahead state (rest-at (plan-in Flags s t) at))) → Turns s t r answers
       unfolding meets
       reads-on not state taken r turns =
-          record { is = λ g. turns .is g ∙ ap (λ (m : State). met format (table-in s) g m (ahead m (rest-at (plan-in s t) at))) taken ∙ sym (pick-false _ _ _ (sym says ∙ not)) ∙ takes-all g; goes = turns .goes }
+          record { is = λ g. turns .is g ∙ ap (λ (m : State). met format (table-in Flags s) g m (ahead m (rest-at (plan-in Flags s t) at))) taken ∙ sym (pick-false _ _ _ (sym says ∙ not)) ∙ takes-all g; goes = turns .goes }
 
   -- Where there was no action.
   module _ (large : format .actions ≤ a) where
     pub number-some : (length bytes ≡ 0 → ⊥) → (r : Step) → r .told ≡ Refused (of-guide wrong-number) → Turns s t r answers
     number-some some = other-number [] (asked-none s a large) some
 
-    pub reads-none : length bytes ≡ 0 → (r : Step) → Turns s t r (meets s marks (ahead marks (rest-at (plan-in s t) at))) → Turns s t r answers
+    pub reads-none : length bytes ≡ 0 → (r : Step) → Turns s t r (meets s marks (ahead marks (rest-at (plan-in Flags s t) at))) → Turns s t r answers
     unfolding meets take-over against some-of literals-read told-all
     reads-none none r turns =
         record { is = λ g. turns .is g ∙ sym (pick-true _ _ _ (eq-eqb (length bytes) 0 none) ∙ pick-false _ _ _ refl) ∙ takes-them [] (asked-none s a large) g; goes = turns .goes }

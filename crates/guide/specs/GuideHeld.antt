@@ -29,14 +29,15 @@ use Rattle.guide.specs.declared.guides.Stage.the-variants.{Refusing, Goi
 use Rattle.guide.specs.declared.guides.Guide as Held
 use Rattle.guide.specs.declared.guides.Started as Held-started
 use Rattle.guide.specs.declared.guides.Turn as Held-turn
+use Rattle.meaning.specs.declared.Form.the-variants.{Flags}
 
 -- WHAT COMES NEXT, an action by the number of its item.
 unfoldable pub came : (s t : List ℕ) → Code.Ahead → Ahead
-came s t r = elim r [ End ↦ the-end | Action i ↦ an-action (action-at s t i) (after-first (rest-at (plan-in s t) i)) | NoBranch ↦ no-branch ]
+came s t r = elim r [ End ↦ the-end | Action i ↦ an-action (action-at s t i) (after-first (rest-at (plan-in Flags s t) i)) | NoBranch ↦ no-branch ]
 
 -- It is an item of the plan, and an action.
 pub record Item-there (s t : List ℕ) (i : ℕ) : Type 0 where
-  pub there : i < items-of (plan-in s t)
+  pub there : i < items-of (plan-in Flags s t)
   pub acts : action-at s t i < format .actions
 
 unfoldable pub Action-there : (s t : List ℕ) → Code.Ahead → Type 0
@@ -52,7 +53,7 @@ fluents-of fs = record { count = length fs; row = fs ++ replicate (format .fluen
 
 -- A GUIDE ON ITS WAY, of a request at hand.
 unfoldable pub on-the-way : (s t : List ℕ) → (action position : ℕ) → State → Guide
-on-the-way s t a i marks = going (table-in s) (asked-by (table-in s) a) (rest-at (plan-in s t) i) marks
+on-the-way s t a i marks = going (table-in Flags s) (asked-by (table-in Flags s) a) (rest-at (plan-in Flags s t) i) marks
 
 -- What a call makes of the guide g: `on` is the guide that goes on, by its action, position and marks.
 unfoldable pub guide-after : (on : (action position : ℕ) → State → Guide) → Guide → Step → Told → Guide
@@ -63,14 +64,14 @@ turned on g r = record { guide = guide-after on g r (r .told); told = r .told }
 
 -- What is made of any guide of a request at hand: in a state, by what comes next; and by a call.
 unfoldable pub meets : (s : List ℕ) → State → Ahead → Guide → Turn
-meets s state x g = met format (table-in s) g state x
+meets s state x g = met format (table-in Flags s) g state x
 
 unfoldable pub takes : (s t : List ℕ) → (action position : ℕ) → State → (readings : List ℕ) → Guide → Turn
-takes s t a i marks bytes g = take-over format (table-in s) g (asked-by (table-in s) a) (rest-at (plan-in s t) i) marks bytes
+takes s t a i marks bytes g = take-over format (table-in Flags s) g (asked-by (table-in Flags s) a) (rest-at (plan-in Flags s t) i) marks bytes
 
 -- Where an action is answered, the guide goes on from a position of the plan, with marks.
 pub record Goes-on (s t : List ℕ) (r : Step) : Type 0 where
-  pub at : Position (plan-in s t) (r .at)
+  pub at : Position (plan-in Flags s t) (r .at)
   pub marked : Marked (r .marks)
 
 unfoldable pub Goes-after : (s t : List ℕ) → Step → Told → Type 0

@@ -9,6 +9,7 @@ ghost use Rattle.meaning.specs.Tests.{both};
 ghost use Rattle.steps.specs.Held.{table-in, plan-in};
 ghost use Rattle.steps.specs.AtHand.{At-hand};
 ghost use Rattle.guide.specs.GuideHeld.{asked-by, fluents-of, is-position, is-marked, guide-held, turned, Begins};
+ghost use Rattle.meaning.specs.declared.Form.the-variants.{Flags};
 use super::going::NOT_VERIFIED;
 use super::going::Step;
 use super::going::answer_call;
@@ -46,8 +47,8 @@ fn is_marked(marks: &Marks) -> bool
 
 // An item of the plan, or its end.
 fn is_position(s: &[u8], t: &Notes, at: usize) -> bool
-    requires { ⌜ At-hand (now s) (now t) ⌝ }
-    ensures { λ r. ⌜ r ≡ is-position (plan-in (now (s .entry)) (now (t .entry))) at ⌝ }
+    requires { ⌜ At-hand Flags (now s) (now t) ⌝ }
+    ensures { λ r. ⌜ r ≡ is-position (plan-in Flags (now (s .entry)) (now (t .entry))) at ⌝ }
 {
     if at == limits::ITEMS {
         return true;
@@ -58,8 +59,8 @@ fn is_position(s: &[u8], t: &Notes, at: usize) -> bool
 
 // A position of the plan, with marks. A reference does not tell how many marks there are, but a slice does.
 fn is_going(s: &[u8], t: &Notes, at: usize, marks: &Marks) -> bool
-    requires { ⌜ At-hand (now s) (now t) ⌝ }
-    ensures { λ r. ⌜ r ≡ both (is-position (plan-in (now (s .entry)) (now (t .entry))) at) (is-marked (now (marks .entry))) ⌝ }
+    requires { ⌜ At-hand Flags (now s) (now t) ⌝ }
+    ensures { λ r. ⌜ r ≡ both (is-position (plan-in Flags (now (s .entry)) (now (t .entry))) at) (is-marked (now (marks .entry))) ⌝ }
     ensures { λ _. ⌜ length (now (marks .entry)) ≡ format .state ⌝ }
 {
     let row: &[u8] = marks;
@@ -126,8 +127,8 @@ pub(crate) fn none_asked() -> Fluents
 
 // Those that an action senses, and none where there was no action.
 fn asked_after(s: &[u8], t: &Notes, action: usize) -> Fluents
-    requires { ⌜ At-hand (now s) (now t) ⌝ }
-    ensures { λ r. ⌜ r ≡ fluents-of (asked-by (table-in (now (s .entry))) action) ⌝ }
+    requires { ⌜ At-hand Flags (now s) (now t) ⌝ }
+    ensures { λ r. ⌜ r ≡ fluents-of (asked-by (table-in Flags (now (s .entry))) action) ⌝ }
 {
     if action < limits::ACTIONS {
         return sensed_by(s, t, action);

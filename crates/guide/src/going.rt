@@ -8,6 +8,7 @@ ghost use Rattle.steps.specs.Rests.{rest-at, after-first, Position};
 ghost use Rattle.guidance.specs.declared.Told.the-variants.{Refused};
 ghost use Rattle.guidance.specs.Guides.{of-guide, an-action, ahead};
 ghost use Rattle.guide.specs.GuideHeld.{came, Item-there, Action-there, meets, takes, Turns};
+ghost use Rattle.meaning.specs.declared.Form.the-variants.{Flags};
 use super::sensed::is_against;
 use super::sensed::sensed_by;
 use super::sensed::taken_over;
@@ -16,6 +17,7 @@ use bytes::limits;
 use finding::places::Found;
 use guidance::Told;
 use meaning::Answer;
+use meaning::Form;
 use reading::marks::Marks;
 use reading::notes;
 use reading::notes::Notes;
@@ -47,9 +49,10 @@ pub(crate) enum Ahead {
 
 // What comes next from a position of the plan on.
 pub(crate) fn look_ahead(s: &[u8], t: &Notes, at: usize, marks: &Marks) -> Ahead
-    requires { ⌜ At-hand (now s) (now t) ⌝ }
-    requires { ⌜ Position (plan-in (now s) (now t)) at ⌝ }
-    ensures { λ r. ⌜ came (now (s .entry)) (now (t .entry)) r ≡ ahead (now (marks .entry)) (rest-at (plan-in (now (s .entry)) (now (t .entry))) at) ⌝ }
+    requires { ⌜ At-hand Flags (now s) (now t) ⌝ }
+    requires { ⌜ Position (plan-in Flags (now s) (now t)) at ⌝ }
+    requires { ⌜ Marked (now marks) ⌝ }
+    ensures { λ r. ⌜ came (now (s .entry)) (now (t .entry)) r ≡ ahead (now (marks .entry)) (rest-at (plan-in Flags (now (s .entry)) (now (t .entry))) at) ⌝ }
     ensures { λ r. ⌜ Action-there (now (s .entry)) (now (t .entry)) r ⌝ }
 {
     let mut i = at;
@@ -57,7 +60,7 @@ pub(crate) fn look_ahead(s: &[u8], t: &Notes, at: usize, marks: &Marks) -> Ahead
         let slot = notes::ITEM_PLACE + i;
         let p = get(t, slot);
         if s[p] == limits::BRANCHING_BYTE {
-            match chosen(s, t, i, marks) {
+            match chosen(Form::Flags, s, t, i, marks) {
                 Found::At(j) => {
                     i = j;
                     continue;
@@ -101,18 +104,18 @@ pub(crate) fn refused_step(number: u8) -> Step
 
 // Answers the action that is item i, in the state `state`.
 fn do_item(s: &[u8], t: &Notes, i: usize, state: &Marks) -> Step
-    requires { ⌜ At-hand (now s) (now t) ⌝ }
+    requires { ⌜ At-hand Flags (now s) (now t) ⌝ }
     requires { ⌜ Item-there (now s) (now t) i ⌝ }
     requires { ⌜ Marked (now state) ⌝ }
-    ensures { λ r. ⌜ Turns (now (s .entry)) (now (t .entry)) r (meets (now (s .entry)) (now (state .entry)) (an-action (action-at (now (s .entry)) (now (t .entry)) i) (after-first (rest-at (plan-in (now (s .entry)) (now (t .entry))) i)))) ⌝ }
+    ensures { λ r. ⌜ Turns (now (s .entry)) (now (t .entry)) r (meets (now (s .entry)) (now (state .entry)) (an-action (action-at (now (s .entry)) (now (t .entry)) i) (after-first (rest-at (plan-in Flags (now (s .entry)) (now (t .entry))) i)))) ⌝ }
 {
     let slot = notes::ITEM_PLACE + i;
     let p = get(t, slot);
     let a = wide(s[p]);
     let runs = can_be_run(s, t, a, state);
     if runs {
-        let next = follow(s, t, i);
-        let sensing = is_sensing(s, t, a);
+        let next = follow(Form::Flags, s, t, i);
+        let sensing = is_sensing(Form::Flags, s, t, a);
         if sensing {
             return Step {
                 told: Told::Do(a),
@@ -134,10 +137,10 @@ fn do_item(s: &[u8], t: &Notes, i: usize, state: &Marks) -> Step
 
 // From the position `at` on, in the state `state`.
 fn go_on(s: &[u8], t: &Notes, at: usize, state: &Marks) -> Step
-    requires { ⌜ At-hand (now s) (now t) ⌝ }
-    requires { ⌜ Position (plan-in (now s) (now t)) at ⌝ }
+    requires { ⌜ At-hand Flags (now s) (now t) ⌝ }
+    requires { ⌜ Position (plan-in Flags (now s) (now t)) at ⌝ }
     requires { ⌜ Marked (now state) ⌝ }
-    ensures { λ r. ⌜ Turns (now (s .entry)) (now (t .entry)) r (meets (now (s .entry)) (now (state .entry)) (ahead (now (state .entry)) (rest-at (plan-in (now (s .entry)) (now (t .entry))) at))) ⌝ }
+    ensures { λ r. ⌜ Turns (now (s .entry)) (now (t .entry)) r (meets (now (s .entry)) (now (state .entry)) (ahead (now (state .entry)) (rest-at (plan-in Flags (now (s .entry)) (now (t .entry))) at))) ⌝ }
 {
     match look_ahead(s, t, at, state) {
         Ahead::End => Step {
@@ -153,9 +156,9 @@ fn go_on(s: &[u8], t: &Notes, at: usize, state: &Marks) -> Step
 
 // A call of a guide that waits at `at`, with `marks`, for the readings of `action`.
 fn step_after(s: &[u8], t: &Notes, action: usize, at: usize, marks: &Marks, readings: &[u8]) -> Step
-    requires { ⌜ At-hand (now s) (now t) ⌝ }
+    requires { ⌜ At-hand Flags (now s) (now t) ⌝ }
     requires { ⌜ action < format .actions ⌝ }
-    requires { ⌜ Position (plan-in (now s) (now t)) at ⌝ }
+    requires { ⌜ Position (plan-in Flags (now s) (now t)) at ⌝ }
     requires { ⌜ Marked (now marks) ⌝ }
     ensures { λ r. ⌜ Turns (now (s .entry)) (now (t .entry)) r (takes (now (s .entry)) (now (t .entry)) action at (now (marks .entry)) (now (readings .entry))) ⌝ }
 {
@@ -181,8 +184,8 @@ pub(crate) fn answer_call(
     marks: &Marks,
     readings: &[u8],
 ) -> Step
-    requires { ⌜ At-hand (now s) (now t) ⌝ }
-    requires { ⌜ Position (plan-in (now s) (now t)) at ⌝ }
+    requires { ⌜ At-hand Flags (now s) (now t) ⌝ }
+    requires { ⌜ Position (plan-in Flags (now s) (now t)) at ⌝ }
     requires { ⌜ Marked (now marks) ⌝ }
     ensures { λ r. ⌜ Turns (now (s .entry)) (now (t .entry)) r (takes (now (s .entry)) (now (t .entry)) action at (now (marks .entry)) (now (readings .entry))) ⌝ }
 {

@@ -7,6 +7,7 @@ ghost use Rattle.steps.specs.Held.{table-in};
 ghost use Rattle.steps.specs.AtHand.{At-hand, Marked};
 ghost use Rattle.guidance.specs.Guides.{sensed, literal-read, literals-read, against};
 ghost use Rattle.guide.specs.GuideHeld.{fluents-of};
+ghost use Rattle.meaning.specs.declared.Form.the-variants.{Flags};
 use bytes::limits;
 use reading::marks::Marks;
 use reading::notes::Notes;
@@ -20,9 +21,9 @@ pub struct Fluents {
 
 // Those that the action senses.
 pub(crate) fn sensed_by(s: &[u8], t: &Notes, a: usize) -> Fluents
-    requires { ⌜ At-hand (now s) (now t) ⌝ }
+    requires { ⌜ At-hand Flags (now s) (now t) ⌝ }
     requires { ⌜ a < format .actions ⌝ }
-    ensures { λ r. ⌜ r ≡ fluents-of (sensed format (table-in (now (s .entry))) a) ⌝ }
+    ensures { λ r. ⌜ r ≡ fluents-of (sensed format (table-in Flags (now (s .entry))) a) ⌝ }
 {
     let mut row = [0u8; limits::FLUENTS];
     let mut count = 0;
@@ -55,11 +56,11 @@ fn mark_read(byte: u8) -> u8
 
 // Some reading is against a known fluent.
 pub(crate) fn is_against(s: &[u8], t: &Notes, a: usize, marks: &Marks, readings: &[u8]) -> bool
-    requires { ⌜ At-hand (now s) (now t) ⌝ }
+    requires { ⌜ At-hand Flags (now s) (now t) ⌝ }
     requires { ⌜ a < format .actions ⌝ }
     requires { ⌜ Marked (now marks) ⌝ }
-    requires { ⌜ length (now readings) ≡ length (sensed format (table-in (now s)) a) ⌝ }
-    ensures { λ r. ⌜ r ≡ against (now (marks .entry)) (literals-read (sensed format (table-in (now (s .entry))) a) (now (readings .entry))) ⌝ }
+    requires { ⌜ length (now readings) ≡ length (sensed format (table-in Flags (now s)) a) ⌝ }
+    ensures { λ r. ⌜ r ≡ against (now (marks .entry)) (literals-read (sensed format (table-in Flags (now (s .entry))) a) (now (readings .entry))) ⌝ }
 {
     let mut i = 0;
     let mut f = 0;
@@ -81,11 +82,11 @@ pub(crate) fn is_against(s: &[u8], t: &Notes, a: usize, marks: &Marks, readings:
 
 // The state with every reading taken over.
 pub(crate) fn taken_over(s: &[u8], t: &Notes, a: usize, marks: &Marks, readings: &[u8]) -> Marks
-    requires { ⌜ At-hand (now s) (now t) ⌝ }
+    requires { ⌜ At-hand Flags (now s) (now t) ⌝ }
     requires { ⌜ a < format .actions ⌝ }
     requires { ⌜ Marked (now marks) ⌝ }
-    requires { ⌜ length (now readings) ≡ length (sensed format (table-in (now s)) a) ⌝ }
-    ensures { λ r. ⌜ r ≡ told-all (literals-read (sensed format (table-in (now (s .entry))) a) (now (readings .entry))) (now (marks .entry)) ⌝ }
+    requires { ⌜ length (now readings) ≡ length (sensed format (table-in Flags (now s)) a) ⌝ }
+    ensures { λ r. ⌜ r ≡ told-all (literals-read (sensed format (table-in Flags (now (s .entry))) a) (now (readings .entry))) (now (marks .entry)) ⌝ }
     ensures { λ r. ⌜ Marked r ⌝ }
 {
     let mut state = *marks;

@@ -26,6 +26,7 @@ use Rattle.finding.proofs.ReadLaws.{whole-table, effects-counted, runs-counted,
 use Rattle.finding.proofs.StartLaws.{front-here}
 use Rattle.steps.proofs.StoreLaws.{store-before, stores-behind}
 use Rattle.indexing.specs.IndexNotes.{noted-from, places-noted, Lines-noted}
+use Rattle.meaning.specs.declared.Form.the-variants.{Flags}
 
 -- AN OFFSET.
 pub low-room : (room : List ℕ) (q v : ℕ) → q + 2 ≤ length room → q + 1 < length (set room q v)
@@ -174,9 +175,9 @@ module _ (t before : List ℕ) (lines q : ℕ) (all room : List ℕ) (count p k 
         }
 
 -- THE TABLE in the notes: how long its index is, and that the notes lead to each action's lines.
-module _ (s t : List ℕ) (here : Table-here s t) where
+module _ (s t : List ℕ) (here : Table-here Flags s t) where
   abbrev x : Table
-  x = table-in s
+  x = table-in Flags s
 
   lines-here : Lines-there format s x
   lines-here = table-lines format s 0 x (here .table-end) (here .table)
@@ -245,14 +246,14 @@ module _ (s t : List ℕ) (here : Table-here s t) where
 
 -- THE INDEX, action by action. The parts of the first a actions are put, and q is behind them.
 pub record Building (s t before room : List ℕ) (actions q a : ℕ) : Type 0 where
-  pub here : Table-here s t
-  pub inside : length (index-of (table-in s)) ≤ length before
-  pub all : actions ≡ table-in s .actions
+  pub here : Table-here Flags s t
+  pub inside : length (index-of (table-in Flags s)) ≤ length before
+  pub all : actions ≡ table-in Flags s .actions
   pub few : a ≤ actions
-  pub placed : q ≡ length (index-from (table-in s) 0 a)
-  pub same : room ≡ sets before 0 (index-from (table-in s) 0 a)
+  pub placed : q ≡ length (index-from (table-in Flags s) 0 a)
+  pub same : room ≡ sets before 0 (index-from (table-in Flags s) 0 a)
 
-pub building-starts : (s t room : List ℕ) (actions : ℕ) → Table-here s t → length (index-of (table-in s)) ≤ length room → actions ≡ getD s 1 0 → Building s t room room actions 0 0
+pub building-starts : (s t room : List ℕ) (actions : ℕ) → Table-here Flags s t → length (index-of (table-in Flags s)) ≤ length room → actions ≡ getD s 1 0 → Building s t room room actions 0 0
 unfolding index-from
 building-starts s t room actions here inside is = record {
   here = here;
@@ -265,15 +266,15 @@ building-starts s t room actions here inside is = record {
 
 module _ (s t before room : List ℕ) (actions q a : ℕ) (builds : Building s t before room actions q a) where
   pub building-sized : length room ≡ length before
-  building-sized = ap length (builds .same) ∙ length-sets before 0 (index-from (table-in s) 0 a)
+  building-sized = ap length (builds .same) ∙ length-sets before 0 (index-from (table-in Flags s) 0 a)
 
-  pub index-put : actions ≤ a → room ≡ sets before 0 (index-of (table-in s))
+  pub index-put : actions ≤ a → room ≡ sets before 0 (index-of (table-in Flags s))
   unfolding index-of
   index-put done =
       let few = builds .few in
       let all = builds .all in
-      let is : a ≡ table-in s .actions = omega arith in
-      builds .same ∙ ap (λ (n : ℕ). sets before 0 (index-from (table-in s) 0 n)) is
+      let is : a ≡ table-in Flags s .actions = omega arith in
+      builds .same ∙ ap (λ (n : ℕ). sets before 0 (index-from (table-in Flags s) 0 n)) is
 
   module _ (more : a < actions) where
     pub action-small : a < format .actions
@@ -285,20 +286,20 @@ module _ (s t before room : List ℕ) (actions q a : ℕ) (builds : Building s t
     abbrev second : List ℕ
     second = counted-offsets (places-noted t run-lines a)
 
-    part : first ++ second ≡ action-index (table-in s) a
+    part : first ++ second ≡ action-index (table-in Flags s) a
     part = noted-part s t (builds .here) a action-small
 
-    part-sized : length first + length second ≡ length (action-index (table-in s) a)
+    part-sized : length first + length second ≡ length (action-index (table-in Flags s) a)
     part-sized = sym (length-append first second) ∙ ap length part
 
-    part-ends : q + (length first + length second) ≡ length (index-from (table-in s) 0 (a + 1))
-    part-ends = let size = part-sized in let at = builds .placed in let on = parts-more (table-in s) a in omega arith
+    part-ends : q + (length first + length second) ≡ length (index-from (table-in Flags s) 0 (a + 1))
+    part-ends = let size = part-sized in let at = builds .placed in let on = parts-more (table-in Flags s) a in omega arith
 
     part-inside : q + (length first + length second) ≤ length room
     part-inside =
         let ends = part-ends in
         let all = builds .all in
-        let fit = parts-fit (table-in s) (a + 1) (omega arith) in
+        let fit = parts-fit (table-in Flags s) (a + 1) (omega arith) in
         let inside = builds .inside in
         let same = building-sized in
         omega arith
@@ -331,10 +332,10 @@ module _ (s t before room : List ℕ) (actions q a : ℕ) (builds : Building s t
             ∙ ap₂ (λ (xs : List ℕ) (i : ℕ). sets xs i second) put at
             ∙ sym (stores-behind first second room q)
             ∙ ap₂ (λ (xs vs : List ℕ). sets xs q vs) (builds .same) part
-            ∙ ap (λ (i : ℕ). sets (sets before 0 (index-from (table-in s) 0 a)) i (action-index (table-in s) a)) start
-            ∙ sym (stores-behind (index-from (table-in s) 0 a) (action-index (table-in s) a) before 0)
-            ∙ ap (sets before 0) (sym (index-more (table-in s) a));
+            ∙ ap (λ (i : ℕ). sets (sets before 0 (index-from (table-in Flags s) 0 a)) i (action-index (table-in Flags s) a)) start
+            ∙ sym (stores-behind (index-from (table-in Flags s) 0 a) (action-index (table-in Flags s) a) before 0)
+            ∙ ap (sets before 0) (sym (index-more (table-in Flags s) a));
       }
         where
-          start : q ≡ 0 + length (index-from (table-in s) 0 a)
+          start : q ≡ 0 + length (index-from (table-in Flags s) 0 a)
           start = let at = builds .placed in omega arith

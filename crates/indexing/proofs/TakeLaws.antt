@@ -18,6 +18,7 @@ use Rattle.reading.specs.Noted.{effect-lines, run-lines, line-numbers}
 use Rattle.finding.specs.TablesHere.{table-in, Table-here}
 use Rattle.finding.proofs.StartLaws.{front-here}
 use Rattle.indexing.specs.IndexNotes.{lines-taken, index-taken}
+use Rattle.meaning.specs.declared.Form.the-variants.{Flags}
 
 -- AN OFFSET, as two bytes.
 pub offset-read : (index : List ℕ) → ((i : ℕ) → Fits w8 (getD index i 0)) → (p r : ℕ) → r ≡ getD index p 0 * 256 + getD index (p + 1) 0 → (r ≡ offset-at index p) × (r < 65536)
@@ -77,10 +78,10 @@ pub record Left (i : List ℕ) (x : Table) (a left q effects runs : ℕ) : Type 
   pub runs-few : runs + length (each-action (executability-of x) a left) < line-numbers
 
 -- All of them are left at the start.
-pub all-left : (s t : List ℕ) → Table-here s t → Left (index-of (table-in s)) (table-in s) 0 (table-in s .actions) 0 0 0
+pub all-left : (s t : List ℕ) → Table-here Flags s t → Left (index-of (table-in Flags s)) (table-in Flags s) 0 (table-in Flags s .actions) 0 0 0
 unfolding index-of effects-of executability-of
 all-left s t here =
-    let x = table-in s in
+    let x = table-in Flags s in
     let lines = table-lines format s 0 x (here .table-end) (here .table) in
     let few = lines .actions in
     let es = length-parted (λ (e : Effect). e .action) (x .actions) (x .effects) (λ e h. lines .effects e h .acts) in
@@ -151,13 +152,13 @@ pub record Indexing (i : List ℕ) (x : Table) (whole t : List ℕ) (actions q e
   pub same : whole ≡ index-taken i a (actions - a) q effects runs t
   pub left : Left i x a (actions - a) q effects runs
 
-pub indexing-starts : (s t : List ℕ) → Table-here s t → (i : List ℕ) → i ≡ index-of (table-in s) → (actions : ℕ) → actions ≡ getD s 1 0
-    → Indexing i (table-in s) (index-taken i 0 (table-in s .actions) 0 0 0 t) t actions 0 0 0 0
+pub indexing-starts : (s t : List ℕ) → Table-here Flags s t → (i : List ℕ) → i ≡ index-of (table-in Flags s) → (actions : ℕ) → actions ≡ getD s 1 0
+    → Indexing i (table-in Flags s) (index-taken i 0 (table-in Flags s .actions) 0 0 0 t) t actions 0 0 0 0
 indexing-starts s t here i is actions count =
-    let all : table-in s .actions ≡ actions - 0 = omega (arith, front-here s t here .actions-are, count) in
+    let all : table-in Flags s .actions ≡ actions - 0 = omega (arith, front-here s t here .actions-are, count) in
     record {
       same = ap (λ (left : ℕ). index-taken i 0 left 0 0 0 t) all;
-      left = rw is (subst (λ (left : ℕ). Left (index-of (table-in s)) (table-in s) 0 left 0 0 0) all (all-left s t here));
+      left = rw is (subst (λ (left : ℕ). Left (index-of (table-in Flags s)) (table-in Flags s) 0 left 0 0 0) all (all-left s t here));
     }
 
 module _ (i : List ℕ) (x : Table) (whole t : List ℕ) (actions q effects runs a : ℕ) (taking : Indexing i x whole t actions q effects runs a) where

@@ -28,6 +28,7 @@ use Rattle.steps.specs.Steps.{mode-in}
 use Rattle.steps.proofs.SameHand.{Other, request-same, guards-same, hand-same}
 use Rattle.indexing.specs.IndexNotes.{lines-taken, index-taken}
 use Rattle.indexing.proofs.TakeLaws.{Left, First, all-left, first-left}
+use Rattle.meaning.specs.declared.Form.the-variants.{Flags}
 
 -- LINES IN A ROW, numbered from k + 1 on: the first comes after i.
 module _ (lines : ℕ) where
@@ -252,73 +253,73 @@ module _ (i : List ℕ) where
         ]
 
 -- THE NOTES with the index of the table that they hold.
-module _ (s t : List ℕ) (table : Table-here s t) (i : List ℕ) (is : i ≡ index-of (table-in s)) where
+module _ (s t : List ℕ) (table : Table-here Flags s t) (i : List ℕ) (is : i ≡ index-of (table-in Flags s)) where
   abbrev u : List ℕ
-  u = index-taken i 0 (table-in s .actions) 0 0 0 t
+  u = index-taken i 0 (table-in Flags s .actions) 0 0 0 t
 
-  left : Left i (table-in s) 0 (table-in s .actions) 0 0 0
+  left : Left i (table-in Flags s) 0 (table-in Flags s .actions) 0 0 0
   left = rw is (all-left s t table)
 
-  pub taken-length : length (index-taken i 0 (table-in s .actions) 0 0 0 t) ≡ length t
-  taken-length = index-long i 0 (table-in s .actions) 0 0 0 t
+  pub taken-length : length (index-taken i 0 (table-in Flags s .actions) 0 0 0 t) ≡ length t
+  taken-length = index-long i 0 (table-in Flags s .actions) 0 0 0 t
 
   -- Every slot but those of lines is as it was.
   taken-other : (j : ℕ) → (effect-lines ≤ j → sensed-from ≤ j) → getD u j 0 ≡ getD t j 0
   taken-other j outside =
       let few = left .few in
-      index-kept i (table-in s) j 0 (table-in s .actions) 0 0 0 t left (clear-outside effect-lines 0 _ 0 j few (λ n less e. let far = outside (omega arith) in omega arith))
+      index-kept i (table-in Flags s) j 0 (table-in Flags s .actions) 0 0 0 t left (clear-outside effect-lines 0 _ 0 j few (λ n less e. let far = outside (omega arith) in omega arith))
       (clear-outside run-lines 0 _ 0 j few (λ n less e. let far = outside (omega arith) in omega arith))
 
-  pub taken-mode : mode-in (index-taken i 0 (table-in s .actions) 0 0 0 t) ≡ mode-in t
+  pub taken-mode : mode-in (index-taken i 0 (table-in Flags s .actions) 0 0 0 t) ≡ mode-in t
   unfolding mode-in
   taken-mode = taken-other mode-slot (λ _. omega arith)
 
   same : (j : ℕ) → Other j → getD u j 0 ≡ getD t j 0
   same j other = taken-other j (other .lines)
 
-  pub taken-request : request-in s (index-taken i 0 (table-in s .actions) 0 0 0 t) ≡ request-in s t
-  taken-request = request-same s t u same
+  pub taken-request : request-in Flags s (index-taken i 0 (table-in Flags s .actions) 0 0 0 t) ≡ request-in Flags s t
+  taken-request = request-same Flags s t u same
 
-  pub taken-guards : guards-in s (index-taken i 0 (table-in s .actions) 0 0 0 t) ≡ guards-in s t
-  taken-guards = guards-same s t u same
+  pub taken-guards : guards-in s (index-taken i 0 (table-in Flags s .actions) 0 0 0 t) ≡ guards-in s t
+  taken-guards = guards-same Flags s t u same
 
   -- An action that is none of the table's has no lines, before and afterwards.
-  lines : Lines-there format s (table-in s)
-  lines = table-lines format s 0 (table-in s) (table .table-end) (table .table)
+  lines : Lines-there format s (table-in Flags s)
+  lines = table-lines format s 0 (table-in Flags s) (table .table-end) (table .table)
 
-  module _ (b : ℕ) (beyond : table-in s .actions ≤ b) (small : b < format .actions) where
-    no-effects : effect-places (table-in s) b ≡ []
+  module _ (b : ℕ) (beyond : table-in Flags s .actions ≤ b) (small : b < format .actions) where
+    no-effects : effect-places (table-in Flags s) b ≡ []
     unfolding effect-places effects-of
-    no-effects = ap (map (λ (e : Effect). e .place)) (of-none (λ (e : Effect). e .action) (table-in s .actions) (table-in s .effects) (λ e h. lines .effects e h .acts) b beyond)
+    no-effects = ap (map (λ (e : Effect). e .place)) (of-none (λ (e : Effect). e .action) (table-in Flags s .actions) (table-in Flags s .effects) (λ e h. lines .effects e h .acts) b beyond)
 
-    no-runs : run-places (table-in s) b ≡ []
+    no-runs : run-places (table-in Flags s) b ≡ []
     unfolding run-places executability-of
-    no-runs = ap (map (λ (r : Executability). r .place)) (of-none (λ (r : Executability). r .action) (table-in s .actions) (table-in s .executability) (λ r h. lines .runs r h .acts) b beyond)
+    no-runs = ap (map (λ (r : Executability). r .place)) (of-none (λ (r : Executability). r .action) (table-in Flags s .actions) (table-in Flags s .executability) (λ r h. lines .runs r h .acts) b beyond)
 
-    first-kept : (section : ℕ) → Clear effect-lines 0 (table-in s .actions) 0 (section + line-numbers + (line-numbers + b)) → Clear run-lines 0 (table-in s .actions) 0 (section + line-numbers + (line-numbers + b))
+    first-kept : (section : ℕ) → Clear effect-lines 0 (table-in Flags s .actions) 0 (section + line-numbers + (line-numbers + b)) → Clear run-lines 0 (table-in Flags s .actions) 0 (section + line-numbers + (line-numbers + b))
         → (ps : List ℕ) → ps ≡ [] → In-order t section b ps → In-order u section b ps
     unfolding In-order first-line next-line Chain
     first-kept section one two ps none order =
-        subst (In-order u section b) (sym none) (index-kept i (table-in s) (section + line-numbers + (line-numbers + b)) 0 (table-in s .actions) 0 0 0 t left one two ∙ subst (In-order t section b) none order)
+        subst (In-order u section b) (sym none) (index-kept i (table-in Flags s) (section + line-numbers + (line-numbers + b)) 0 (table-in Flags s .actions) 0 0 0 t left one two ∙ subst (In-order t section b) none order)
 
-    kept-effects : In-order t effect-lines b (effect-places (table-in s) b) → In-order u effect-lines b (effect-places (table-in s) b)
+    kept-effects : In-order t effect-lines b (effect-places (table-in Flags s) b) → In-order u effect-lines b (effect-places (table-in Flags s) b)
     kept-effects =
         let few = left .few in
-        first-kept effect-lines (clear-first effect-lines 0 (table-in s .actions) 0 b (λ _. omega arith)) (clear-outside run-lines 0 (table-in s .actions) 0 _ few (λ n less e. omega arith)) _ no-effects
+        first-kept effect-lines (clear-first effect-lines 0 (table-in Flags s .actions) 0 b (λ _. omega arith)) (clear-outside run-lines 0 (table-in Flags s .actions) 0 _ few (λ n less e. omega arith)) _ no-effects
 
-    kept-runs : In-order t run-lines b (run-places (table-in s) b) → In-order u run-lines b (run-places (table-in s) b)
+    kept-runs : In-order t run-lines b (run-places (table-in Flags s) b) → In-order u run-lines b (run-places (table-in Flags s) b)
     kept-runs =
         let few = left .few in
-        first-kept run-lines (clear-outside effect-lines 0 (table-in s .actions) 0 _ few (λ n less e. omega arith)) (clear-first run-lines 0 (table-in s .actions) 0 b (λ _. omega arith)) _ no-runs
+        first-kept run-lines (clear-outside effect-lines 0 (table-in Flags s .actions) 0 _ few (λ n less e. omega arith)) (clear-first run-lines 0 (table-in Flags s .actions) 0 b (λ _. omega arith)) _ no-runs
 
-  pub taken-hand : At-hand s t → At-hand s (index-taken i 0 (table-in s .actions) 0 0 0 t)
+  pub taken-hand : At-hand Flags s t → At-hand Flags s (index-taken i 0 (table-in Flags s .actions) 0 0 0 t)
   unfolding effect-places run-places LinesFound.effect-places LinesFound.run-places
   taken-hand here =
-      hand-same s t u same here
+      hand-same Flags s t u same here
       (λ b small.
-      by-test (ltb b (table-in s .actions)) (λ e. ordered b (ltb-true b (table-in s .actions) e) .effects) (λ e. kept-effects b (ltb-false b (table-in s .actions) e) small (here .effects b small)))
+      by-test (ltb b (table-in Flags s .actions)) (λ e. ordered b (ltb-true b (table-in Flags s .actions) e) .effects) (λ e. kept-effects b (ltb-false b (table-in Flags s .actions) e) small (here .effects b small)))
       (λ b small.
-      by-test (ltb b (table-in s .actions)) (λ e. ordered b (ltb-true b (table-in s .actions) e) .runs) (λ e. kept-runs b (ltb-false b (table-in s .actions) e) small (here .runs b small)))
+      by-test (ltb b (table-in Flags s .actions)) (λ e. ordered b (ltb-true b (table-in Flags s .actions) e) .runs) (λ e. kept-runs b (ltb-false b (table-in Flags s .actions) e) small (here .runs b small)))
     where
-      ordered : (b : ℕ) → b < table-in s .actions → Ordered i (table-in s) u b
-      ordered b less = index-ordered i (table-in s) b 0 (table-in s .actions) 0 0 0 t (table .sized) left (omega arith) (omega arith)
+      ordered : (b : ℕ) → b < table-in Flags s .actions → Ordered i (table-in Flags s) u b
+      ordered b less = index-ordered i (table-in Flags s) b 0 (table-in Flags s .actions) 0 0 0 t (table .sized) left (omega arith) (omega arith)

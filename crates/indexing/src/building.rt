@@ -9,6 +9,7 @@ ghost use Rattle.meaning.specs.Indexes.{offsets, counted-offsets, index-of};
 ghost use Rattle.reading.specs.Noted.{run-lines};
 ghost use Rattle.finding.specs.TablesHere.{table-in, Table-here};
 ghost use Rattle.indexing.specs.IndexNotes.{places-noted, Lines-noted};
+ghost use Rattle.meaning.specs.declared.Form.the-variants.{Flags};
 use bytes::bytes::wide;
 use reading::notes;
 use reading::notes::Notes;
@@ -53,8 +54,8 @@ fn put_lines(t: &Notes, lines: usize, a: usize, room: &mut [u8], q: usize) -> us
 
 // How many bytes the index has (FORMAT 23.5).
 pub fn index_length(s: &[u8], t: &Notes) -> usize
-    requires { ⌜ Table-here (now s) (now t) ⌝ }
-    ensures { λ r. ⌜ r ≡ length (index-of (table-in (now (s .entry)))) ⌝ }
+    requires { ⌜ Table-here Flags (now s) (now t) ⌝ }
+    ensures { λ r. ⌜ r ≡ length (index-of (table-in Flags (now (s .entry)))) ⌝ }
 {
     let actions = wide(s[1]);
     let effects = get(t, notes::COUNT_OF_EFFECTS);
@@ -64,9 +65,9 @@ pub fn index_length(s: &[u8], t: &Notes) -> usize
 
 // The index goes to the start of the room.
 pub fn put_index(s: &[u8], t: &Notes, room: &mut [u8])
-    requires { ⌜ Table-here (now s) (now t) ⌝ }
-    requires { ⌜ length (index-of (table-in (now s))) ≤ length (now room) ⌝ }
-    ensures { λ _. ⌜ now (room .exit) ≡ sets (now (room .entry)) 0 (index-of (table-in (now (s .entry)))) ⌝ }
+    requires { ⌜ Table-here Flags (now s) (now t) ⌝ }
+    requires { ⌜ length (index-of (table-in Flags (now s))) ≤ length (now room) ⌝ }
+    ensures { λ _. ⌜ now (room .exit) ≡ sets (now (room .entry)) 0 (index-of (table-in Flags (now (s .entry)))) ⌝ }
 {
     let actions = wide(s[1]);
     let mut q = 0;

@@ -6,6 +6,7 @@ ghost use Rattle.meaning.specs.Limits.{most-index};
 ghost use Rattle.meaning.specs.Indexes.{first-difference, index-of};
 ghost use Rattle.finding.specs.Places.{found};
 ghost use Rattle.finding.specs.TablesHere.{table-in, Table-here};
+ghost use Rattle.meaning.specs.declared.Form.the-variants.{Flags};
 use super::building::index_length;
 use super::building::put_index;
 use bytes::limits;
@@ -35,8 +36,8 @@ fn difference(one: &[u8], n: usize, other: &[u8]) -> Found
 
 // That of the index which building gives and this one.
 pub fn differs(s: &[u8], t: &Notes, index: &[u8]) -> Found
-    requires { ⌜ Table-here (now s) (now t) ⌝ }
-    ensures { λ r. ⌜ r ≡ found (first-difference (index-of (table-in (now (s .entry)))) (now (index .entry))) ⌝ }
+    requires { ⌜ Table-here Flags (now s) (now t) ⌝ }
+    ensures { λ r. ⌜ r ≡ found (first-difference (index-of (table-in Flags (now (s .entry)))) (now (index .entry))) ⌝ }
 {
     let mut room = [0u8; limits::INDEX];
     put_index(s, t, &mut room);

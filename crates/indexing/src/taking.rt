@@ -7,6 +7,7 @@ ghost use Rattle.meaning.specs.Indexes.{offset-at, counted-at, after-counted, i
 ghost use Rattle.reading.specs.Noted.{run-lines, line-numbers};
 ghost use Rattle.finding.specs.TablesHere.{table-in, Table-here};
 ghost use Rattle.indexing.specs.IndexNotes.{lines-taken, index-taken};
+ghost use Rattle.meaning.specs.declared.Form.the-variants.{Flags};
 use bytes::bytes::two;
 use bytes::bytes::wide;
 use bytes::limits;
@@ -53,9 +54,9 @@ fn take_lines(index: &[u8], q: usize, t: &mut Notes, lines: usize, a: usize, k: 
 
 // The index becomes what the notes have of the lines of sections 3 and 4.
 pub fn take_index(s: &[u8], index: &[u8], t: &mut Notes)
-    requires { ⌜ Table-here (now s) (now t) ⌝ }
-    requires { ⌜ now index ≡ index-of (table-in (now s)) ⌝ }
-    ensures { λ _. ⌜ now (t .exit) ≡ index-taken (now (index .entry)) 0 (table-in (now (s .entry)) .actions) 0 0 0 (now (t .entry)) ⌝ }
+    requires { ⌜ Table-here Flags (now s) (now t) ⌝ }
+    requires { ⌜ now index ≡ index-of (table-in Flags (now s)) ⌝ }
+    ensures { λ _. ⌜ now (t .exit) ≡ index-taken (now (index .entry)) 0 (table-in Flags (now (s .entry)) .actions) 0 0 0 (now (t .entry)) ⌝ }
 {
     let actions = wide(s[1]);
     let mut q = 0;

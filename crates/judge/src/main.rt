@@ -1,10 +1,12 @@
-// Judges the request on standard input, and says so on standard output (FORMAT 12.1 to 12.6, 12.13, 12.21, 18.17, 21.19, 21.20, 22.16, 23.19, 23.20).
+// Judges the request on standard input, and says so on standard output (FORMAT 12.1 to 12.6, 12.13, 12.21, 18.17, 21.19, 21.20, 22.16, 23.19, 23.20, 26.92, 26.93).
 ghost use Rattle.programs.specs.Input.{Within};
 use bytes::limits;
+use glintstring::judging::Judged;
 use glintstring::judging::judge;
 use glintstring::judging::judge_by_cases;
 use glintstring::judging::judge_guarded;
 use glintstring::judging::judge_indexed;
+use glintstring::judging::judge_values;
 use libc::STDIN_FILENO;
 use libc::STDOUT_FILENO;
 use programs::Asked;
@@ -16,6 +18,7 @@ use programs::put;
 use programs::put_line;
 use programs::put_number;
 use programs::put_state;
+use programs::put_values;
 use programs::read_all;
 use programs::stack_is_enough;
 use verdicts::answers;
@@ -26,6 +29,7 @@ enum Call {
     Guarded,
     ByCases,
     Indexed,
+    Values,
 }
 
 // The descriptor on which the script gives the index.
@@ -33,6 +37,14 @@ const INDEX_FILENO: i32 = 3;
 
 // Room for an index, with a byte more: what stands behind that changes no answer.
 const INDEX_ROOM: usize = limits::INDEX + 1;
+
+// The line with the state that an answer has left.
+fn put_left(call: Call, state: &[u8; limits::FLUENTS], fluents: u8) -> bool {
+    match call {
+        Call::Values => put_values(state, fluents),
+        _ => put_state(state, fluents),
+    }
+}
 
 // The answer, for 1, 2 and 43 the state, and where it is asked for the line. The first byte of a request that gets one of these is its fluent count. Without
 // enough stack there is none, which is said.
@@ -46,6 +58,10 @@ fn answer_to(request: &[u8], index: &[u8], budget: u32, call: Call, line: bool) 
         Call::Guarded => judge_guarded(request, &mut state, budget),
         Call::ByCases => judge_by_cases(request, &mut state, budget),
         Call::Indexed => judge_indexed(request, index, &mut state, budget),
+        Call::Values => Judged {
+            answer: judge_values(request, &mut state, budget),
+            line: 0,
+        },
     };
     let answer = judged.answer;
     if !put_line(
@@ -63,7 +79,7 @@ fn answer_to(request: &[u8], index: &[u8], budget: u32, call: Call, line: bool) 
         if request.len() == 0 {
             return false;
         }
-        if !put_state(&state, request[0]) {
+        if !put_left(call, &state, request[0]) {
             return false;
         }
     }
@@ -115,6 +131,9 @@ fn call_asked(from_end: usize) -> Call {
     }
     if option_asked(from_end, b"--indexed") {
         return Call::Indexed;
+    }
+    if option_asked(from_end, b"--values") {
+        return Call::Values;
     }
     Call::Walk
 }

@@ -82,3 +82,5 @@ pub mod DifferenceLaws
 pub mod IndexAnswers
 pub mod IndexBuilt
 pub mod DeriveAnswers
+pub mod ValuePlaces
+pub mod ValueAnswers

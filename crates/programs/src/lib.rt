@@ -1,5 +1,5 @@
 // What the programs share: an input is read as far as a buffer goes, words are known and a budget is read from its digits, an answer is printed
-// as three numbers, its state as signs, what a call has written to a room as it is, and the stack is looked at before a walk.
+// as three numbers, its state as signs or as values, what a call has written to a room as it is, and the stack is looked at before a walk.
 pub mod words; // what the numbers say in words
 
 ghost use Prim.Native.Nat.{_≤_};
@@ -285,6 +285,32 @@ pub fn put_state(state: &[u8; limits::FLUENTS], fluents: u8) -> bool {
     }
     let end = f + 1;
     put(&line[..end])
+}
+
+// The value that is known of fluent f, which is one less than its mark, or `?`. A space stands before it where f is not the first.
+fn put_value(f: usize, mark: u8) -> bool {
+    if f > 0 && !put(b" ") {
+        return false;
+    }
+    if mark == limits::UNKNOWN_MARK {
+        return put(b"?");
+    }
+    put_number((mark - 1) as u64)
+}
+
+// The line with the value of each fluent.
+pub fn put_values(state: &[u8; limits::FLUENTS], fluents: u8) -> bool {
+    let mut f = 0;
+    while f < limits::FLUENTS {
+        if f >= fluents as usize {
+            break;
+        }
+        if !put_value(f, state[f]) {
+            return false;
+        }
+        f += 1;
+    }
+    put(b"\n")
 }
 
 // A number behind a space.

@@ -40,6 +40,7 @@ pub fn put_words(fd: i32, number: u8) -> bool {
         43 => write_all(fd, b"guard broken"),
         44 => write_all(fd, b"too many cases"),
         45 => write_all(fd, b"index differs"),
+        46 => write_all(fd, b"effect that says is not"),
         _ => write_all(fd, b"no answer that the format has"),
     }
 }

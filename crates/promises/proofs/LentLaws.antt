@@ -134,7 +134,7 @@ module _ (request : List ℕ) (x : Request) (e : ℕ) (past : settled format req
       (walked-kept Marked x (cases-step (x .table)) (cases-marked (x .table)) from (first-marked (x .table))) (walked-cases-blank x in-range)
 
   begins : Front Flags request 0 (x .table)
-  begins = request-starts request x e (settled-is format request x e past .reads) .front
+  begins = request-starts Flags request x e (settled-is format request x e past .reads) .front
 
 pub judge-written : (request lent : List ℕ) (budget : ℕ) → Writes (judge format request lent budget .answer .number) → Written request (judge format request lent budget .state)
 judge-written request lent budget writes =
@@ -143,7 +143,7 @@ judge-written request lent budget writes =
     (w .0, w .1, w .2, begins request (w .0) (w .1) (w .2) .fluents-are, w .3 .0, w .3 .1)
 
 -- THE OTHER CALLS: the state that an end concerns has what the end has.
-concerned-has : (P : State → Type 0) (e : End State) (s : State) → concerned e ≡ in-state s → End-has P e → P s
+pub concerned-has : (P : State → Type 0) (e : End State) (s : State) → concerned e ≡ in-state s → End-has P e → P s
 unfolding concerned
 concerned-has P fine s is has = subst (Concerned-has P) is has
 concerned-has P (missed p u) s is has = subst (Concerned-has P) is has

@@ -12,6 +12,10 @@ pub mod ExportedGuardedPromises
 pub mod CaseJudgePromises
 pub mod CaseCallPromises
 pub mod ExportedCasePromises
+pub mod ValuesLentLaws
+pub mod ValuesJudgePromises
+pub mod ValuesCallPromises
+pub mod ExportedValuesPromises
 pub mod BuildPromises
 pub mod IndexPromises
 pub mod ExportedIndexPromises

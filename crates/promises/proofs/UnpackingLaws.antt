@@ -1,5 +1,5 @@
 -- An answer in one number gives its parts back: each part is smaller than the room that it has, so division and remainder find it. Every answer
--- of the walk call, of the guarded call, of the call by cases, of the indexed call, of the index call, of the derive call, of the derivation call and of the whether call and every own answer of the release call
+-- of the walk call, of the guarded call, of the call by cases, of the values call, of the indexed call, of the index call, of the derive call, of the derivation call and of the whether call and every own answer of the release call
 -- is such an answer. Assumes nothing.
 use Prim.Native.Nat.{ℕ, _/_, _%_, _<_}
 use native.Mathlib.Omega.{arith}
@@ -19,11 +19,12 @@ use Rattle.meaning.specs.Judging.{judge}
 use Rattle.meaning.specs.Derivations.{check}
 use Rattle.meaning.specs.Guards.{judge-guarded}
 use Rattle.meaning.specs.ByCases.{judge-by-cases}
+use Rattle.meaning.specs.Valued.{judge-values}
 use Rattle.meaning.specs.Indexes.{build, judge-indexed}
 use Rattle.meaning.specs.Schemes.{derive}
 use Rattle.meaning.specs.Layouts.{Bytes}
 use Rattle.meaning.specs.Releases.{release}
-use Rattle.meaning.specs.Answers.{refusals, answers, guarded-answers, cases-answers, index-answers, indexed-answers, derive-answers, end-fault, faults, check-answers, release-refusals, release-answers}
+use Rattle.meaning.specs.Answers.{refusals, answers, guarded-answers, cases-answers, values-answers, index-answers, indexed-answers, derive-answers, end-fault, faults, check-answers, release-refusals, release-answers}
 use Rattle.meaning.specs.AnswerParts.{of-neither, Walk-input, of-rooms, Index-input, Indexed-input, of-derived, Derive-input, inputs-of}
 use Rattle.meaning.proofs.TestLaws.{by-test}
 use Rattle.meaning.proofs.LiteralLaws.{among-each}
@@ -37,6 +38,7 @@ use Rattle.meaning.proofs.IndexBuilt.{index-numbered, index-input, index-place-
 use Rattle.meaning.proofs.DeriveAnswers.{derive-numbered, derive-input, derive-place-limited}
 use Rattle.meaning.proofs.IndexAnswers.{indexed-numbered, indexed-input, indexed-place-limited}
 use Rattle.meaning.proofs.ReleaseLaws.{own-numbered, own-input}
+use Rattle.demands.proofs.Demands.{values-numbered, values-input, values-place-limited}
 use Rattle.glintstring.specs.Packing.{packed, unpacked}
 use Rattle.glintstring.proofs.PackingLaws.{place-small, guarded-place-small, cases-place-small, check-place-small, own-place-small}
 
@@ -113,6 +115,18 @@ cases-answer-small s lent budget = record {
   number = cases-number-small _ (cases-numbered format s lent budget);
   input = input-small _ (cases-input format s lent budget);
   place = cases-place-small s lent budget;
+}
+
+-- THE ANSWERS OF THE VALUES CALL.
+values-number-small : (n : ℕ) → among n values-answers ≡ true → n < 256
+unfolding values-answers answers refusals each-of both
+values-number-small n is = ltb-true _ _ (among-each (λ (m : ℕ). ltb m 256) values-answers refl n is)
+
+pub values-answer-small : (s lent : List ℕ) (budget : ℕ) → Small (judge-values format s lent budget .answer)
+values-answer-small s lent budget = record {
+  number = values-number-small _ (values-numbered format s lent budget);
+  input = input-small _ (values-input format s lent budget);
+  place = let most = values-place-limited format s lent budget in omega (arith, most);
 }
 
 -- THE ANSWERS OF THE INDEXED CALL, of a request of bytes: with 45 the place is in an index, which is short.

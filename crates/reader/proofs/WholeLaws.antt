@@ -43,7 +43,7 @@ pub record Front (form : Form) (s : List ℕ) (p : ℕ) (x : Table) : Type 0 whe
 
 -- Behind the fluents' count.
 module _ (s : List ℕ) (p n q : ℕ) (en : count-at 1 (format .fluents) s p ≡ got n q) where
-  behind-values : {A : Type 0} (form : Form) (k : ℕ → Got A) (x : A) (e : ℕ) → past-values form n s q k ≡ got x e → k (actions-place form p n) ≡ got x e
+  pub behind-values : {A : Type 0} (form : Form) (k : ℕ → Got A) (x : A) (e : ℕ) → past-values form n s q k ≡ got x e → k (actions-place form p n) ≡ got x e
   behind-values Flags k x e is = subst (λ (i : ℕ). k i ≡ got x e) (sym (count-got 1 (format .fluents) s p n q en .2)) is
   behind-values Valued k x e is =
       let w = next-got (value-counts-at n s q) _ is in

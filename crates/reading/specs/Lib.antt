@@ -3,3 +3,4 @@ pub mod Listed
 pub mod Planned
 pub mod Requested
 pub mod Ordered
+pub mod Tables

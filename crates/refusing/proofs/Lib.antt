@@ -1,3 +1,5 @@
+pub mod FlagClashes
+pub mod ValueClashes
 pub mod Laws16
 pub mod AgreeLaws
 pub mod Laws17

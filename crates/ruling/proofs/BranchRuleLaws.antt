@@ -21,6 +21,7 @@ use Rattle.meaning.proofs.TestLaws.{by-test}
 use Rattle.meaning.proofs.ToldLaws.{Clear, state-known}
 use Rattle.meaning.proofs.SettledLaws.{fault≢got, got-same}
 use Rattle.meaning.proofs.PlanReads.{Said, Passed-on, plan-on}
+use Rattle.bytes.proofs.LineReaderLaws.{counted-flags}
 use Rattle.bytes.specs.declared.bytes.Read.{Read}
 use Rattle.bytes.specs.declared.bytes.Read.the-variants.{Value, Fault}
 use Rattle.reading.specs.declared.marks.Test.the-variants.{Known}
@@ -47,7 +48,7 @@ use Rattle.ruling.proofs.RuleLaws.{X-same, plan-of, item-bytes, own-cou
 
 -- THE PLACE after a given number of branches.
 module _ (d t : List ℕ) where
-  end-first : (left p i : ℕ) → 0 < left → branches-end d t left p i ≡ branches-end d t (left - 1) (place-after d t p i) (item-after d t p i)
+  end-first : (left p i : ℕ) → 0 < left → branches-end d t left p i ≡ branches-end d t (left - 1) (place-after Flags d t p i) (item-after Flags d t p i)
   unfolding branches-end
   end-first zero p i more = absurd (omega (arith, more))
   end-first (suc left) p i more = let less : suc left - 1 ≡ left = omega arith in rw less
@@ -58,27 +59,27 @@ module _ (d t : List ℕ) where
   end-none (suc left) p i h = absurd (omega (arith, h))
 
   module _ (whole left p i : ℕ) (so-far : whole ≡ branches-end d t left p i) where
-    pub end-next : 0 < left → (q j : ℕ) → q ≡ place-after d t p i → j ≡ item-after d t p i → whole ≡ branches-end d t (left - 1) q j
+    pub end-next : 0 < left → (q j : ℕ) → q ≡ place-after Flags d t p i → j ≡ item-after Flags d t p i → whole ≡ branches-end d t (left - 1) q j
     end-next more q j placed counted = so-far ∙ end-first left p i more ∙ rw (placed, counted)
 
     pub end-done : left ≤ 0 → p ≡ whole
     end-done over = sym (so-far ∙ end-none left p i over)
 
   -- Branches that are held.
-  end-is : (bs : Branches ℕ) (p i : ℕ) → Branches-written d p bs → Branches-kept t i p bs → branches-end d t (branches-in bs) p i ≡ p + bytes-under Flags bs
+  end-is : (bs : Branches ℕ) (p i : ℕ) → Branches-written Flags d p bs → Branches-kept Flags t i p bs → branches-end d t (branches-in bs) p i ≡ p + bytes-under Flags bs
   unfolding branches-end branches-in Branches-written Branches-kept bytes-under
   end-is none p i w k = omega arith
   end-is (branch c b rest) p i w k =
-      ap₂ {C = ℕ} (λ q j. branches-end d t (branches-in rest) q j) (place-is d t i p c b (w .0) (k .0)) (item-is d t i p c b (w .0) (k .0))
+      ap₂ {C = ℕ} (λ q j. branches-end d t (branches-in rest) q j) (place-is Flags d t i p c b (w .0) (k .0)) (item-is Flags d t i p c b (w .0) (k .0))
       ∙ end-is rest (p + (1 + length c) + (2 + bytes-of Flags b)) (i + items-of b) (w .2) (k .2)
       ∙ omega arith
 
-  held-here : (bs : Branches ℕ) (p i : ℕ) → i + items-under bs ≤ format .items → Branches-written d p bs → Branches-kept t i p bs → Branches-here d t (branches-in bs) p i
+  held-here : (bs : Branches ℕ) (p i : ℕ) → i + items-under bs ≤ format .items → Branches-written Flags d p bs → Branches-kept Flags t i p bs → Branches-here Flags d t (branches-in bs) p i
   unfolding Branches-here branches-in Branches-written Branches-kept items-under
   held-here none p i few w k = tt
   held-here (branch c b rest) p i few w k = (
     record { condition = w .0 .here; counted = w .0 .there; few = omega (arith, few) },
-    rw (place-is d t i p c b (w .0) (k .0), item-is d t i p c b (w .0) (k .0))
+    rw (place-is Flags d t i p c b (w .0) (k .0), item-is Flags d t i p c b (w .0) (k .0))
         (held-here rest (p + (1 + length c) + (2 + bytes-of Flags b)) (i + items-of b) (omega (arith, few)) (w .2) (k .2)),
   )
 
@@ -89,9 +90,9 @@ module _ (d t : List ℕ) where
     others : Branches ℕ
     is : bs ≡ branch condition body others
     same : listed d p ≡ condition
-    items : Items-stand d (sequence-place d p + 2) (place-after d t p i) (getD d (sequence-place d p) 0 * 256 + getD d (sequence-place d p + 1) 0) body
+    items : Items-stand d (sequence-place Flags d p + 2) (place-after Flags d t p i) (getD d (sequence-place Flags d p) 0 * 256 + getD d (sequence-place Flags d p + 1) 0) body
     count : left - 1 ≡ branches-in others
-    then : Branches-held d t (place-after d t p i) (item-after d t p i) others
+    then : Branches-held d t (place-after Flags d t p i) (item-after Flags d t p i) others
 
   first-branch : (left p i : ℕ) → 0 < left → (bs : Branches ℕ) → left ≡ branches-in bs → Branches-held d t p i bs → First-branch left p i bs
   unfolding branches-in Branches-written Branches-kept Tellable-branches items-under bytes-under sequence-place
@@ -101,8 +102,8 @@ module _ (d t : List ℕ) where
       let code = branch-coded d p c b rest (h .bytes) in
       let size = code .size in
       let own = own-most b in
-      let place : place-after d t p i ≡ p + (1 + length c) + (2 + bytes-of Flags b) = place-is d t i p c b (w .0) (k .0) in
-      let met : item-after d t p i ≡ i + items-of b = item-is d t i p c b (w .0) (k .0) in
+      let place : place-after Flags d t p i ≡ p + (1 + length c) + (2 + bytes-of Flags b) = place-is Flags d t i p c b (w .0) (k .0) in
+      let met : item-after Flags d t p i ≡ i + items-of b = item-is Flags d t i p c b (w .0) (k .0) in
       let counted = code .count in
       record {
         condition = c;
@@ -144,7 +145,7 @@ module _ (d t : List ℕ) where
       start-fits room = let there = second-there in let most = room .fits in record { fits = omega arith }
 
     module _ (count : ℕ) (is : count ≡ getD d (first + 1) 0) where
-      pub branches-start : Some-branched d t first y more → Branches-here d t count (first + 2) 1
+      pub branches-start : Some-branched d t first y more → Branches-here Flags d t count (first + 2) 1
       branches-start some =
           let b = some .branched in
           rw (is ∙ b .count) (held-here (some .branches) (first + 2) 1 (b .held .few) (b .held .written) (b .held .kept))
@@ -160,9 +161,9 @@ module _ (d t : List ℕ) where
         rest-there some = record { items = some .rest; stand = rest-items (some .branches) (some .rest) (some .branched) }
 
 -- The count of a branch's items, and where these begin.
-module _ (d t : List ℕ) (left p i sequence : ℕ) (more : 0 < left) (here : Branches-here d t left p i) (at : sequence ≡ sequence-place d p) where
+module _ (d t : List ℕ) (left p i sequence : ℕ) (more : 0 < left) (here : Branches-here Flags d t left p i) (at : sequence ≡ sequence-place Flags d p) where
   pub count-there : sequence + 1 < length d
-  count-there = rw at (branch-first d t left p i more here .counted)
+  count-there = rw at (branch-first Flags d t left p i more here .counted)
 
   pub items-fit : Fits w64 (length d) → Fits w64 (sequence + 2)
   items-fit room = let there = count-there in let most = room .fits in record { fits = omega arith }
@@ -207,7 +208,7 @@ module _ (d t : List ℕ) (held : State) (first cited yc y more : ℕ) where
                 ∙ ap (λ (k : List ℕ). either (both (each-of (known held) k) (same-plan c (join (f .body) rest))) (takes-known held (f .others) rest c)) (sym (f .same));
           }
 
-      module _ (q j : ℕ) (placed : q ≡ place-after d t p i) (counted : j ≡ item-after d t p i) where
+      module _ (q j : ℕ) (placed : q ≡ place-after Flags d t p i) (counted : j ≡ item-after Flags d t p i) where
         trying-next : ((bs : Branches ℕ) (rest c : Sequence ℕ) → (b : Branched d t first y more bs rest) → (plan : Plan-stands d cited yc c)
             → both (each-of (known held) (listed d p)) (same-plan c (join (step bs rest c b plan .first-one .1 .body) rest)) ≡ false)
             → Trying d t held first cited yc y more (left - 1) q j
@@ -235,7 +236,7 @@ module _ (d t : List ℕ) (held : State) (first cited yc y more : ℕ) where
           trying-unknown not = trying-next (λ bs rest c b plan. rw (test-is ∙ not))
 
       -- The branch's items, from two bytes after its count up to q, and the rest's.
-      module _ (q sequence items : ℕ) (placed : q ≡ place-after d t p i) (at : sequence ≡ sequence-place d p) (read : items ≡ getD d sequence 0 * 256 + getD d (sequence + 1) 0) where
+      module _ (q sequence items : ℕ) (placed : q ≡ place-after Flags d t p i) (at : sequence ≡ sequence-place Flags d p) (read : items ≡ getD d sequence 0 * 256 + getD d (sequence + 1) 0) where
         branch-items : (branches : Branches ℕ) (f : First-branch d t left p i branches) → Items-stand d (sequence + 2) q items (f .body)
         branch-items branches f = rw (read, placed, at) (f .items)
 
@@ -250,7 +251,7 @@ module _ (d t : List ℕ) (held : State) (first cited yc y more : ℕ) where
               let s = step bs last c b plan in
               joined .holds c (s .first-one .1 .body) last plan (branch-items (s .first-one .0) (s .first-one .1)) (rest-items d t first y more count is rest after bs last b)
 
-          pub trying-other : answer ≡ false → (j : ℕ) → j ≡ item-after d t p i → Trying d t held first cited yc y more (left - 1) q j
+          pub trying-other : answer ≡ false → (j : ℕ) → j ≡ item-after Flags d t p i → Trying d t held first cited yc y more (left - 1) q j
           unfolding both
           trying-other not j counted =
               trying-next q j placed counted
@@ -342,7 +343,7 @@ record Begins (d u : List ℕ) (first y more : ℕ) (l : Line) : Type 0 where
   branched : Branched d u first y more branches rest
 
 module _ (d u : List ℕ) (plan y : ℕ) where
-  opened : (o : ℕ) (bs : Branches ℕ) (rest : Sequence ℕ) → o ≡ plan + 2 → Plan-stands d plan y (item (branching o bs) rest) → Plan-held d u (item (branching o bs) rest) → Branching-coded d (plan + 2) bs rest
+  opened : (o : ℕ) (bs : Branches ℕ) (rest : Sequence ℕ) → o ≡ plan + 2 → Plan-stands d plan y (item (branching o bs) rest) → Plan-held Flags d u (item (branching o bs) rest) → Branching-coded d (plan + 2) bs rest
       → Tellable-branches bs → Tellable rest → (more : ℕ) → more ≡ own-items rest → Branched d u (plan + 2) y more bs rest
   unfolding Written Item-written Kept Item-kept items-of items-in bytes-of bytes-in own-items
   opened o bs rest place stands held code told tells more counted =
@@ -354,8 +355,8 @@ module _ (d u : List ℕ) (plan y : ℕ) where
         held = record {
           few = omega (arith, few);
           inside = omega (arith, inside, ends);
-          written = subst (λ (j : ℕ). Branches-written d (j + 2) bs) place (w .1);
-          kept = subst (λ (j : ℕ). Branches-kept u 1 (j + 2) bs) place (k .1);
+          written = subst (λ (j : ℕ). Branches-written Flags d (j + 2) bs) place (w .1);
+          kept = subst (λ (j : ℕ). Branches-kept Flags u 1 (j + 2) bs) place (k .1);
           bytes = code .branches-there;
           tellable = told;
         };
@@ -381,7 +382,7 @@ module _ (d : List ℕ) (v w : Spot) (n m : ℕ) (r : Bool) where
 -- THE LINE.
 module _ (n m : ℕ) (d : List ℕ) (w : Spot) where
   -- Its plan, with the count there.
-  module _ (plan : ℕ) (at : plan ≡ sequence-place d (w .line)) where
+  module _ (plan : ℕ) (at : plan ≡ sequence-place Flags d (w .line)) where
     pub plan-counted : Some-read n m d w → plan + 1 < length d
     plan-counted some = plan-of d w plan at (some .line) (some .stands) .counted
 
@@ -431,8 +432,8 @@ module _ (n m : ℕ) (d : List ℕ) (w : Spot) where
                 let there = plan-of d w plan at l sl in
                 let b = branching-there d (plan + 2) (l .c) (own-some l sl) (there .tellable) (there .bytes) byte in
                 let whole : v .0 ≡ item (branching (b .place) (b .branches)) (b .rest) = tree ∙ b .is in
-                let read-there = plan-held n m d few less plan t (with-items (v .0) items) e (omega (arith, long)) (v .1) in
-                let held : Plan-held d u (v .0) = subst (λ (x : List ℕ). Plan-held d x (v .0)) (sym (v .2)) read-there in
+                let read-there = plan-held Flags n m d few less (counted-flags d) plan t (with-items (v .0) items) e (omega (arith, long)) (v .1) in
+                let held : Plan-held Flags d u (v .0) = subst (λ (x : List ℕ). Plan-held Flags d x (v .0)) (sym (v .2)) read-there in
                 let own = own-count d w plan at count counted l sl in let one = b .own in
                 record {
                   place = b .place;
@@ -442,7 +443,7 @@ module _ (n m : ℕ) (d : List ℕ) (w : Spot) where
                   branched = opened d u plan (w .end) (b .place) (b .branches) (b .rest)
                       (subst (First-at (plan + 2)) whole (plan-first n m d plan (with-items (v .0) items) e (v .1)))
                       (subst (Plan-stands d plan (w .end)) (b .is) there)
-                      (subst (Plan-held d u) whole held)
+                      (subst (Plan-held Flags d u) whole held)
                       (b .there)
                       (b .branches-told)
                       (b .rest-told)
@@ -456,7 +457,7 @@ module _ (n m : ℕ) (d : List ℕ) (w : Spot) where
                 record { branches = g .branches; rest = g .rest; branched = g .branched }
 
             module _ (v : Spot) (one other : Bool) (starts : one ≡ same-list (listed d (v .line)) (listed d (w .line))) (yes : one ≡ true) (ends : Same-conclusions d v w other) (also : other ≡ true) where
-              pub rule-by-branch : (held : State) → held ≡ state-of format (listed d (w .line)) → (given : ℕ) → given ≡ sequence-place d (v .line) → (answer : Bool)
+              pub rule-by-branch : (held : State) → held ≡ state-of format (listed d (w .line)) → (given : ℕ) → given ≡ sequence-place Flags d (v .line) → (answer : Bool)
                   → Branch-taken d u held (plan + 2) given (v .end) (w .end) (count - 1) answer → Read-by n m d v w rule-4 answer
               unfolding rule-4 branches-first
               rule-by-branch held told given place answer taken =

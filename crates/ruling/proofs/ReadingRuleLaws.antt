@@ -46,7 +46,7 @@ use Rattle.comparing.proofs.PlanLaws.{plan-part, items-part}
 use Rattle.ruling.proofs.RuleLaws.{no-left, no-right, yes-left, plan-of, own-count}
 
 -- ONE CITATION, a line at the spot v, whose plan's count stands at q.
-module _ (d : List ℕ) (v : Spot) (q : ℕ) (after : q ≡ sequence-place d (v .line)) (some : Stands-some d v) where
+module _ (d : List ℕ) (v : Spot) (q : ℕ) (after : q ≡ sequence-place Flags d (v .line)) (some : Stands-some d v) where
   cited-some : Plan-stands d q (v .end) (some .line .c)
   cited-some = plan-of d v q after (some .line) (some .stands)
 
@@ -68,7 +68,7 @@ module _ (d : List ℕ) (marks : State) (w v : Spot) (starts : Bool) (first : st
   unfolding says
   starts-other f = record { holds = λ c rest Y z y. no-left (same-list (c .X) (literals-of marks)) _ (sym (starts-is c z) ∙ f) }
 
-  module _ (q count : ℕ) (after : q ≡ sequence-place d (v .line)) (read : count ≡ getD d q 0 * 256 + getD d (q + 1) 0) (p all items : ℕ) (own : p ≡ sequence-place d (w .line)) (whole : all ≡ getD d p 0 * 256 + getD d (p + 1) 0) (less : items ≡ all - 1) where
+  module _ (q count : ℕ) (after : q ≡ sequence-place Flags d (v .line)) (read : count ≡ getD d q 0 * 256 + getD d (q + 1) 0) (p all items : ℕ) (own : p ≡ sequence-place Flags d (w .line)) (whole : all ≡ getD d p 0 * 256 + getD d (p + 1) 0) (less : items ≡ all - 1) where
     items-are : items ≡ rest-items d w
     items-are = less ∙ ap (λ (n : ℕ). n - 1) (whole ∙ ap (λ (j : ℕ). getD d j 0 * 256 + getD d (j + 1) 0) own)
 
@@ -386,7 +386,7 @@ unfolding bytes-of
 act-bytes o a rest = refl
 
 -- Its first item.
-module _ (d : List ℕ) (w : Spot) (q count : ℕ) (after : q ≡ sequence-place d (w .line)) (read : count ≡ getD d q 0 * 256 + getD d (q + 1) 0) where
+module _ (d : List ℕ) (w : Spot) (q count : ℕ) (after : q ≡ sequence-place Flags d (w .line)) (read : count ≡ getD d q 0 * 256 + getD d (q + 1) 0) where
   module _ (t : Table) (layout : Layout) (places : List ℕ) where
     pub none-first : count ≡ 0 → Ruled-by-all layout d places w (rule-3 format t) false
     unfolding rule-3 senses-first

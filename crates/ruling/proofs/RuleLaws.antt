@@ -53,7 +53,7 @@ yes-right : (a b : Bool) → b ≡ true → both a b ≡ a
 yes-right a b e = same-test (both a b) a (both-left a b) (λ t. both-true a b t e)
 
 -- A LINE at a spot, whose plan's count stands at q.
-module _ (d : List ℕ) (w : Spot) (q : ℕ) (after : q ≡ sequence-place d (w .line)) where
+module _ (d : List ℕ) (w : Spot) (q : ℕ) (after : q ≡ sequence-place Flags d (w .line)) where
   pub plan-of : (l : Line) → Stands d w l → Plan-stands d q (w .end) (l .c)
   unfolding sequence-place after-list
   plan-of l sl = subst (λ (j : ℕ). Plan-stands d j (w .end) (l .c)) (sym after) (sl .plan)
@@ -158,7 +158,7 @@ pub empty-whether : (d : List ℕ) (w : Spot) → w .fluent ≡ true → Ruled d
 unfolding rule-1
 empty-whether d w whether = record { holds = λ l sl. no-right (same-plan (l .c) done) (same-conclusion (l .Y) (knows (l .X))) (Y-other d w whether l sl (l .X)) }
 
-module _ (d : List ℕ) (w : Spot) (q : ℕ) (after : q ≡ sequence-place d (w .line)) (none : Bool) (tested : none ≡ no-item d q) where
+module _ (d : List ℕ) (w : Spot) (q : ℕ) (after : q ≡ sequence-place Flags d (w .line)) (none : Bool) (tested : none ≡ no-item d q) where
   pub empty-same : (r : Bool) → w .fluent ≡ false → none ≡ true → r ≡ same-list (listed d (w .conclusion)) (listed d (w .line)) → Ruled d w rule-1 r
   unfolding rule-1
   empty-same r list t is =
@@ -187,7 +187,7 @@ module _ (d : List ℕ) (v w : Spot) (starts : Bool) (first : starts ≡ same-li
   pub X-same : (c l : Line) → Stands d v c → Stands d w l → starts ≡ same-list (c .X) (l .X)
   X-same c l sc sl = first ∙ ap₂ {C = Bool} same-list (sc .X .same) (sl .X .same)
 
-module _ (d : List ℕ) (v w : Spot) (r q : ℕ) (given : r ≡ sequence-place d (v .line)) (after : q ≡ sequence-place d (w .line)) (same : Bool) (compared : Same-plans d r (v .end) d q (w .end) same) where
+module _ (d : List ℕ) (v w : Spot) (r q : ℕ) (given : r ≡ sequence-place Flags d (v .line)) (after : q ≡ sequence-place Flags d (w .line)) (same : Bool) (compared : Same-plans d r (v .end) d q (w .end) same) where
   plans-are : (c l : Line) → Stands d v c → Stands d w l → same ≡ same-plan (c .c) (l .c)
   plans-are c l sc sl = compared .holds (c .c) (l .c) (plan-of d v r given c sc) (plan-of d w q after l sl)
 
@@ -217,7 +217,7 @@ module _ (d : List ℕ) (v w : Spot) where
     unfolding rule-6
     not-within f = record { holds = λ c l sc sl. no-left _ _ (sym (starts-is c l sc sl) ∙ f) }
 
-    module _ (t : starts ≡ true) (r q : ℕ) (given : r ≡ sequence-place d (v .line)) (after : q ≡ sequence-place d (w .line)) (same : Bool) (second : Same-plans d r (v .end) d q (w .end) same) where
+    module _ (t : starts ≡ true) (r q : ℕ) (given : r ≡ sequence-place Flags d (v .line)) (after : q ≡ sequence-place Flags d (w .line)) (same : Bool) (second : Same-plans d r (v .end) d q (w .end) same) where
       same-is : (c l : Line) → Stands d v c → Stands d w l → same ≡ same-plan (c .c) (l .c)
       same-is = plans-are d v w r q given after same second
 
@@ -308,7 +308,7 @@ module _ (d : List ℕ) (v w : Spot) where
             ∙ eq-eqb _ _ (ap (λ (k : ℕ). k / 2) (sym byte) ∙ same-fluent)
 
         pub settled : (starts : Bool) → starts ≡ same-list (listed d (v .line)) (listed d (w .line)) → starts ≡ true
-            → (r q : ℕ) → r ≡ sequence-place d (v .line) → q ≡ sequence-place d (w .line) → (same : Bool) → Same-plans d r (v .end) d q (w .end) same → Ruled-by d v w rule-8 same
+            → (r q : ℕ) → r ≡ sequence-place Flags d (v .line) → q ≡ sequence-place Flags d (w .line) → (same : Bool) → Same-plans d r (v .end) d q (w .end) same → Ruled-by d v w rule-8 same
         unfolding rule-8
         settled starts first t r q given after same second =
             record {
@@ -365,7 +365,7 @@ module _ (d : List ℕ) (u v w : Spot) where
                   (sym (no-left (same-conclusion (c .Y) (l .Y)) (same-plan (join (b .c) (c .c)) (l .c)) (sym (ends-is b c l sb sc sl) ∙ f)));
             }
 
-        pub composed : ends ≡ true → (q q₁ q₂ count more : ℕ) → q ≡ sequence-place d (w .line) → q₁ ≡ sequence-place d (u .line) → q₂ ≡ sequence-place d (v .line)
+        pub composed : ends ≡ true → (q q₁ q₂ count more : ℕ) → q ≡ sequence-place Flags d (w .line) → q₁ ≡ sequence-place Flags d (u .line) → q₂ ≡ sequence-place Flags d (v .line)
             → count ≡ getD d q₁ 0 * 256 + getD d (q₁ + 1) 0 → more ≡ getD d q₂ 0 * 256 + getD d (q₂ + 1) 0
             → (r : Bool) → Joined-plans d q (w .end) (q₁ + 2) (u .end) count (q₂ + 2) (v .end) more r → Ruled-by-two d u v w rule-5 r
         unfolding rule-5
@@ -384,8 +384,8 @@ module _ (d : List ℕ) (u v w : Spot) where
 
 -- STATES.
 module _ (d : List ℕ) (p : ℕ) (marks : State) (first : marks ≡ state-of format (listed d p)) where
-  pub next-marked : (s : List ℕ) (a : ℕ) (next : State) → next ≡ state-after (table-in s) a marks → Marked next
-  next-marked s a next then = after-marked (table-in s) a marks next (marked-as (listed d p) marks first) then
+  pub next-marked : (s : List ℕ) (a : ℕ) (next : State) → next ≡ state-after (table-in Flags s) a marks → Marked next
+  next-marked s a next then = after-marked (table-in Flags s) a marks next (marked-as (listed d p) marks first) then
 
 -- RULES 2 and 7. An item takes a byte.
 pub item-bytes : (c : Sequence ℕ) → 0 < own-items c → 0 < bytes-of Flags c
@@ -447,27 +447,27 @@ record One-act (c : Sequence ℕ) (a : ℕ) : Type 0 where
 
 -- The conclusion is of the other kind.
 module _ (d : List ℕ) (w : Spot) (s : List ℕ) where
-  pub action-whether : w .fluent ≡ true → Ruled d w (rule-2 format (table-in s)) false
+  pub action-whether : w .fluent ≡ true → Ruled d w (rule-2 format (table-in Flags s)) false
   unfolding rule-2 acts
   action-whether whether =
       record {
         holds = λ l sl.
-            acts-never (table-in s) l
-            (λ a. no-right (fails (sensing (table-in s) a)) _ (sym (no-right (can-be-run (table-in s) a (state-of format (l .X))) _ (Y-other d w whether l sl _))))
+            acts-never (table-in Flags s) l
+            (λ a. no-right (fails (sensing (table-in Flags s) a)) _ (sym (no-right (can-be-run (table-in Flags s) a (state-of format (l .X))) _ (Y-other d w whether l sl _))))
             (l .c);
       }
 
-  pub look-lists : w .fluent ≡ false → Ruled d w (rule-7 format (table-in s)) false
+  pub look-lists : w .fluent ≡ false → Ruled d w (rule-7 format (table-in Flags s)) false
   unfolding rule-7 looks-for
   look-lists list =
       record {
         holds = λ l sl.
-            looks-never (table-in s) l
-            (λ a. sym (ap (λ (Y : Conclusion). looks-for format (table-in s) Y a (state-of format (l .X))) (Y-lists d w list l sl .is)))
+            looks-never (table-in Flags s) l
+            (λ a. sym (ap (λ (Y : Conclusion). looks-for format (table-in Flags s) Y a (state-of format (l .X))) (Y-lists d w list l sl .is)))
             (l .c);
       }
 
-module _ (d : List ℕ) (w : Spot) (q : ℕ) (after : q ≡ sequence-place d (w .line)) (count : ℕ) (read : count ≡ getD d q 0 * 256 + getD d (q + 1) 0) where
+module _ (d : List ℕ) (w : Spot) (q : ℕ) (after : q ≡ sequence-place Flags d (w .line)) (count : ℕ) (read : count ≡ getD d q 0 * 256 + getD d (q + 1) 0) where
   pub own-count : (l : Line) → Stands d w l → count ≡ own-items (l .c)
   own-count l sl = read ∙ plan-of d w q after l sl .count
 
@@ -479,13 +479,13 @@ module _ (d : List ℕ) (w : Spot) (q : ℕ) (after : q ≡ sequence-place d (w 
       let ends = there .ends in let inside = there .inside in
       omega (arith, size, ends, inside)
 
-  pub not-one-item : (s : List ℕ) → (count ≡ 1 → ⊥) → Ruled d w (rule-2 format (table-in s)) false
+  pub not-one-item : (s : List ℕ) → (count ≡ 1 → ⊥) → Ruled d w (rule-2 format (table-in Flags s)) false
   unfolding rule-2
-  not-one-item s other = record { holds = λ l sl. not-one (table-in s) l (l .c) (λ e. other (own-count l sl ∙ e)) }
+  not-one-item s other = record { holds = λ l sl. not-one (table-in Flags s) l (l .c) (λ e. other (own-count l sl ∙ e)) }
 
-  pub not-one-looked : (s : List ℕ) → (count ≡ 1 → ⊥) → Ruled d w (rule-7 format (table-in s)) false
+  pub not-one-looked : (s : List ℕ) → (count ≡ 1 → ⊥) → Ruled d w (rule-7 format (table-in Flags s)) false
   unfolding rule-7
-  not-one-looked s other = record { holds = λ l sl. not-one-look (table-in s) l (l .c) (λ e. other (own-count l sl ∙ e)) }
+  not-one-looked s other = record { holds = λ l sl. not-one-look (table-in Flags s) l (l .c) (λ e. other (own-count l sl ∙ e)) }
 
   module _ (one : count ≡ 1) where
     own-one : (l : Line) → Stands d w l → own-items (l .c) ≡ 1
@@ -502,22 +502,22 @@ module _ (d : List ℕ) (w : Spot) (q : ℕ) (after : q ≡ sequence-place d (w 
           let there = plan-of d w q after l sl in
           branching-there d (q + 2) (l .c) (omega (arith, own)) (there .tellable) (there .bytes) is
 
-      pub item-branches : (s : List ℕ) → Ruled d w (rule-2 format (table-in s)) false
+      pub item-branches : (s : List ℕ) → Ruled d w (rule-2 format (table-in Flags s)) false
       unfolding rule-2
       item-branches s =
           record {
             holds = λ l sl.
                 let b = one-branches l sl in
-                one-branching (table-in s) l (b .place) (b .branches) (b .rest) ∙ ap (one-action format (table-in s) l) (sym (b .is));
+                one-branching (table-in Flags s) l (b .place) (b .branches) (b .rest) ∙ ap (one-action format (table-in Flags s) l) (sym (b .is));
           }
 
-      pub look-branches : (s : List ℕ) → Ruled d w (rule-7 format (table-in s)) false
+      pub look-branches : (s : List ℕ) → Ruled d w (rule-7 format (table-in Flags s)) false
       unfolding rule-7
       look-branches s =
           record {
             holds = λ l sl.
                 let b = one-branches l sl in
-                look-branching (table-in s) l (b .place) (b .branches) (b .rest) ∙ ap (one-look format (table-in s) l) (sym (b .is));
+                look-branching (table-in Flags s) l (b .place) (b .branches) (b .rest) ∙ ap (one-look format (table-in Flags s) l) (sym (b .is));
           }
 
     -- An action a.
@@ -535,26 +535,26 @@ module _ (d : List ℕ) (w : Spot) (q : ℕ) (after : q ≡ sequence-place d (w 
       unfolding Small
       action-small some = subst Small (one-act (some .line) (some .stands) .is) (some .small) .0
 
-      module _ (s : List ℕ) (sensed : Bool) (tested : sensed ≡ sensing (table-in s) a) where
+      module _ (s : List ℕ) (sensed : Bool) (tested : sensed ≡ sensing (table-in Flags s) a) where
         abbrev table : Table
-        table = table-in s
+        table = table-in Flags s
 
         acts-is : (l : Line) → Stands d w l → rule-2 format table l ≡ acts format table l a (state-of format (l .X))
         unfolding rule-2
         acts-is l sl = let b = one-act l sl in ap (one-action format table l) (b .is) ∙ one-acts table l (b .place) a
 
-        pub action-senses : sensed ≡ true → Ruled d w (rule-2 format (table-in s)) false
+        pub action-senses : sensed ≡ true → Ruled d w (rule-2 format (table-in Flags s)) false
         unfolding acts fails
         action-senses t = record { holds = λ l sl. no-left (fails (sensing table a)) _ (ap fails (sym tested ∙ t)) ∙ sym (acts-is l sl) }
 
-        module _ (f : sensed ≡ false) (marks : State) (first : marks ≡ state-of format (listed d (w .line))) (runs : Bool) (run : runs ≡ can-be-run (table-in s) a marks) where
+        module _ (f : sensed ≡ false) (marks : State) (first : marks ≡ state-of format (listed d (w .line))) (runs : Bool) (run : runs ≡ can-be-run (table-in Flags s) a marks) where
           marks-are : (l : Line) → Stands d w l → marks ≡ state-of format (l .X)
           marks-are l sl = first ∙ ap (state-of format) (sl .X .same)
 
           runs-is : (l : Line) → Stands d w l → runs ≡ can-be-run table a (state-of format (l .X))
           runs-is l sl = run ∙ ap (can-be-run table a) (marks-are l sl)
 
-          pub action-stuck : runs ≡ false → Ruled d w (rule-2 format (table-in s)) false
+          pub action-stuck : runs ≡ false → Ruled d w (rule-2 format (table-in Flags s)) false
           unfolding acts
           action-stuck e =
               record {
@@ -563,8 +563,8 @@ module _ (d : List ℕ) (w : Spot) (q : ℕ) (after : q ≡ sequence-place d (w 
                     ∙ sym (acts-is l sl);
               }
 
-          pub action-leads : w .fluent ≡ false → runs ≡ true → (next : State) → next ≡ state-after (table-in s) a marks
-              → (r : Bool) → r ≡ same-list (listed d (w .conclusion)) (literals-of next) → Ruled d w (rule-2 format (table-in s)) r
+          pub action-leads : w .fluent ≡ false → runs ≡ true → (next : State) → next ≡ state-after (table-in Flags s) a marks
+              → (r : Bool) → r ≡ same-list (listed d (w .conclusion)) (literals-of next) → Ruled d w (rule-2 format (table-in Flags s)) r
           unfolding acts fails
           action-leads list t next then r is =
               record {
@@ -578,25 +578,25 @@ module _ (d : List ℕ) (w : Spot) (q : ℕ) (after : q ≡ sequence-place d (w 
               }
 
       -- It looks at the fluent f.
-      module _ (whether : w .fluent ≡ true) (s : List ℕ) (f : ℕ) (told : f ≡ getD d (w .conclusion) 0) (looks : Bool) (looked : looks ≡ senses (knowledge-of (table-in s) a) f) where
-        looks-is : (l : Line) → Stands d w l → rule-7 format (table-in s) l ≡ both looks (can-be-run (table-in s) a (state-of format (l .X)))
+      module _ (whether : w .fluent ≡ true) (s : List ℕ) (f : ℕ) (told : f ≡ getD d (w .conclusion) 0) (looks : Bool) (looked : looks ≡ senses (knowledge-of (table-in Flags s) a) f) where
+        looks-is : (l : Line) → Stands d w l → rule-7 format (table-in Flags s) l ≡ both looks (can-be-run (table-in Flags s) a (state-of format (l .X)))
         unfolding rule-7 looks-for
         looks-is l sl =
             let b = one-act l sl in
-            ap (one-look format (table-in s) l) (b .is)
-            ∙ one-looks (table-in s) l (b .place) a
-            ∙ ap (λ (Y : Conclusion). looks-for format (table-in s) Y a (state-of format (l .X))) (Y-tells d w whether l sl .is)
-            ∙ ap (λ (x : Bool). both x (can-be-run (table-in s) a (state-of format (l .X)))) (ap (senses (knowledge-of (table-in s) a)) (sym told) ∙ sym looked)
+            ap (one-look format (table-in Flags s) l) (b .is)
+            ∙ one-looks (table-in Flags s) l (b .place) a
+            ∙ ap (λ (Y : Conclusion). looks-for format (table-in Flags s) Y a (state-of format (l .X))) (Y-tells d w whether l sl .is)
+            ∙ ap (λ (x : Bool). both x (can-be-run (table-in Flags s) a (state-of format (l .X)))) (ap (senses (knowledge-of (table-in Flags s) a)) (sym told) ∙ sym looked)
 
-        pub looks-elsewhere : looks ≡ false → Ruled d w (rule-7 format (table-in s)) false
+        pub looks-elsewhere : looks ≡ false → Ruled d w (rule-7 format (table-in Flags s)) false
         looks-elsewhere e = record { holds = λ l sl. no-left looks _ e ∙ sym (looks-is l sl) }
 
-        pub looks-there : looks ≡ true → (marks : State) → marks ≡ state-of format (listed d (w .line)) → (r : Bool) → r ≡ can-be-run (table-in s) a marks → Ruled d w (rule-7 format (table-in s)) r
+        pub looks-there : looks ≡ true → (marks : State) → marks ≡ state-of format (listed d (w .line)) → (r : Bool) → r ≡ can-be-run (table-in Flags s) a marks → Ruled d w (rule-7 format (table-in Flags s)) r
         looks-there t marks first r run =
             record {
               holds = λ l sl.
                   run
-                  ∙ ap (can-be-run (table-in s) a) (first ∙ ap (state-of format) (sl .X .same))
+                  ∙ ap (can-be-run (table-in Flags s) a) (first ∙ ap (state-of format) (sl .X .same))
                   ∙ sym (yes-left looks _ t)
                   ∙ sym (looks-is l sl);
             }

@@ -21,14 +21,14 @@ use Rattle.comparing.specs.RuleAnswers.{Items-stand}
 -- The place after a given number of branches, the first of which stands at p with i items before it.
 unfoldable pub branches-end : (d t : List ℕ) (left p i : ℕ) → ℕ
 branches-end d t zero p i = p
-branches-end d t (suc left) p i = branches-end d t left (place-after d t p i) (item-after d t p i)
+branches-end d t (suc left) p i = branches-end d t left (place-after Flags d t p i) (item-after Flags d t p i)
 
 -- Branches from p on, with i items before them.
 pub record Branches-held (d t : List ℕ) (p i : ℕ) (bs : Branches ℕ) : Type 0 where
   pub few : i + items-under bs ≤ format .items
   pub inside : p + bytes-under Flags bs ≤ length d
-  pub written : Branches-written d p bs
-  pub kept : Branches-kept t i p bs
+  pub written : Branches-written Flags d p bs
+  pub kept : Branches-kept Flags t i p bs
   pub bytes : bytes-from d p (bytes-under Flags bs) ≡ coded-branches bs
   pub tellable : Tellable-branches bs
 

@@ -5,6 +5,7 @@ use mathlib.Core.Bool.{Bool, true}
 use mathlib.Core.List.{List, [], _∷_, map}
 use lib.ListN.{length, getD}
 use lib.Dec.{ltb}
+use Rattle.meaning.specs.declared.Form.the-variants.{Flags}
 use Rattle.meaning.specs.declared.Layout.{Layout}
 use Rattle.meaning.specs.Tests.{both, pick, each-of}
 use Rattle.meaning.specs.Limits.{format}
@@ -47,10 +48,10 @@ pub record Stands-some (d : List ℕ) (w : Spot) : Type 0 where
 
 -- What follows the first item of the line at the spot: where it starts, and how many items it has.
 abbrev pub rest-first : List ℕ → Spot → ℕ
-rest-first d w = sequence-place d (w .line) + 3
+rest-first d w = sequence-place Flags d (w .line) + 3
 
 abbrev pub rest-items : List ℕ → Spot → ℕ
-rest-items d w = getD d (sequence-place d (w .line)) 0 * 256 + getD d (sequence-place d (w .line) + 1) 0 - 1
+rest-items d w = getD d (sequence-place Flags d (w .line)) 0 * 256 + getD d (sequence-place Flags d (w .line) + 1) 0 - 1
 
 -- It stands there, and the line's conclusion.
 pub record Follows (d : List ℕ) (w : Spot) (rest : Sequence ℕ) (Y : Conclusion) : Type 0 where

@@ -5,6 +5,7 @@ ghost use Rattle.meaning.specs.Derivations.{rule-4};
 ghost use Rattle.finding.specs.Branches.{Branches-here};
 ghost use Rattle.comparing.specs.RuleAnswers.{Some-plan, Some-line, Some-read, Read-by};
 ghost use Rattle.ruling.specs.Branched.{branches-end, Some-branched, Branch-taken};
+ghost use Rattle.meaning.specs.declared.Form.the-variants.{Flags};
 use bytes::bytes::Read;
 use bytes::bytes::wide;
 use bytes::limits;
@@ -27,15 +28,15 @@ use reading::plan::plan_at;
 
 // The place after a given number of branches, the first of which stands at `place` with `item` items before it.
 fn after_branches(d: &[u8], t: &Notes, count: usize, place: usize, item: usize) -> usize
-    requires { ⌜ Branches-here (now d) (now t) count place item ⌝ }
+    requires { ⌜ Branches-here Flags (now d) (now t) count place item ⌝ }
     ensures { λ r. ⌜ r ≡ branches-end (now (d .entry)) (now (t .entry)) count place item ⌝ }
 {
     let mut left = count;
     let mut p = place;
     let mut i = item;
     while 0 < left {
-        let q = next_place(d, t, p, i);
-        let j = next_item(d, t, p, i);
+        let q = next_place(Form::Flags, d, t, p, i);
+        let j = next_item(Form::Flags, d, t, p, i);
         p = q;
         i = j;
         left -= 1;
@@ -66,10 +67,10 @@ fn some_branch(
     let mut p = start;
     let mut i = 1;
     while 0 < left {
-        let q = next_place(d, t, p, i);
-        let j = next_item(d, t, p, i);
+        let q = next_place(Form::Flags, d, t, p, i);
+        let j = next_item(Form::Flags, d, t, p, i);
         let known = each_holds(Test::Known, held, d, p);
-        let sequence = sequence_of(d, p);
+        let sequence = sequence_of(Form::Flags, d, p);
         p = q;
         i = j;
         left -= 1;
@@ -101,7 +102,7 @@ pub fn rule_4(n: usize, m: usize, d: &[u8], t: &mut Notes, cited: Spot, l: Spot)
     if starts {
         let ends = same_conclusions(d, cited, l);
         if ends {
-            let plan = sequence_of(d, p);
+            let plan = sequence_of(Form::Flags, d, p);
             let count = count_of(d, plan);
             if count == 0 {
                 return false;
@@ -112,7 +113,7 @@ pub fn rule_4(n: usize, m: usize, d: &[u8], t: &mut Notes, cited: Spot, l: Spot)
                 match plan_at(Form::Flags, n, m, d, plan, t) {
                     Read::Value(_, _) => {
                         let held = state_of(d, p);
-                        let given = sequence_of(d, pc);
+                        let given = sequence_of(Form::Flags, d, pc);
                         let more = count - 1;
                         let g = cited.end;
                         let e = l.end;

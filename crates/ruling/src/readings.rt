@@ -10,6 +10,7 @@ ghost use Rattle.steps.specs.AtHand.{At-hand, Marked};
 ghost use Rattle.comparing.specs.Stands.{spot-at};
 ghost use Rattle.comparing.specs.RuleAnswers.{Some-line, Some-lines, Cited-below, Ruled-by-all};
 ghost use Rattle.ruling.specs.Readings.{states-from, Stands-some, Some-follows, Says-reading, Some-rest, Uses};
+ghost use Rattle.meaning.specs.declared.Form.the-variants.{Flags};
 use bytes::bytes::two;
 use bytes::bytes::wide;
 use bytes::limits;
@@ -21,6 +22,7 @@ use comparing::spots::same_conclusions;
 use comparing::spots::spot_of;
 use deriving::derivations::Places;
 use finding::branches::sequence_of;
+use meaning::Form;
 use meaning::Layout;
 use reading::marks::Marks;
 use reading::marks::state_of;
@@ -58,10 +60,10 @@ fn says_reading(d: &[u8], marks: &Marks, own: Spot, cited: Spot) -> bool
     let starts = lists_known(marks, d, pc);
     if starts {
         let p = own.line;
-        let mine = sequence_of(d, p);
+        let mine = sequence_of(Form::Flags, d, p);
         let all = count_of(d, mine);
         let items = one_less(all);
-        let plan = sequence_of(d, pc);
+        let plan = sequence_of(Form::Flags, d, pc);
         let count = count_of(d, plan);
         if count != items {
             return false;
@@ -129,18 +131,18 @@ fn each_reading(
     i: usize,
     k: usize,
 ) -> Used
-    requires { ⌜ At-hand (now s) (now t) ⌝ }
+    requires { ⌜ At-hand Flags (now s) (now t) ⌝ }
     requires { ⌜ a < format .actions ⌝ }
     requires { ⌜ Marked marks ⌝ }
     requires { ⌜ i < lines ⌝ }
     requires { ⌜ Some-rest layout (now d) (now places) lines (spot-at layout (now d) (getD (now places) i 0) (getD (now places) (plan-ends-slot + i) 0)) ⌝ }
-    ensures { λ r. ⌜ Uses layout (now (d .entry)) (now (places .entry)) (spot-at layout (now (d .entry)) (getD (now (places .entry)) i 0) (getD (now (places .entry)) (plan-ends-slot + i) 0)) (states-from (table-in (now (s .entry))) a marks f) k r ⌝ }
+    ensures { λ r. ⌜ Uses layout (now (d .entry)) (now (places .entry)) (spot-at layout (now (d .entry)) (getD (now (places .entry)) i 0) (getD (now (places .entry)) (plan-ends-slot + i) 0)) (states-from (table-in Flags (now (s .entry))) a marks f) k r ⌝ }
 {
     if f < limits::FLUENTS {
         let above = f + 1;
         let mut state = marks;
         state[f] = limits::TRUE_MARK;
-        let g = next_unknown(s, t, a, above, &state);
+        let g = next_unknown(Form::Flags, s, t, a, above, &state);
         match each_reading(layout, s, t, d, places, a, g, state, lines, i, k) {
             Used::To(j) => {
                 state[f] = limits::FALSE_MARK;
@@ -164,16 +166,16 @@ pub fn rule_3(
     i: usize,
     l: Spot,
 ) -> bool
-    requires { ⌜ At-hand (now s) (now t) ⌝ }
+    requires { ⌜ At-hand Flags (now s) (now t) ⌝ }
     requires { ⌜ Some-line (now d) l ⌝ }
     requires { ⌜ Some-lines layout (now d) (now places) lines ⌝ }
     requires { ⌜ i < lines ⌝ }
     requires { ⌜ l ≡ spot-at layout (now d) (getD (now places) i 0) (getD (now places) (plan-ends-slot + i) 0) ⌝ }
     requires { ⌜ Cited-below (now d) l lines ⌝ }
-    ensures { λ r. ⌜ Ruled-by-all layout (now (d .entry)) (now (places .entry)) l (rule-3 format (table-in (now (s .entry)))) r ⌝ }
+    ensures { λ r. ⌜ Ruled-by-all layout (now (d .entry)) (now (places .entry)) l (rule-3 format (table-in Flags (now (s .entry)))) r ⌝ }
 {
     let p = l.line;
-    let plan = sequence_of(d, p);
+    let plan = sequence_of(Form::Flags, d, p);
     let count = count_of(d, plan);
     if count == 0 {
         return false;
@@ -183,12 +185,12 @@ pub fn rule_3(
         return false;
     }
     let a = wide(d[first]);
-    let sensing = is_sensing(s, t, a);
+    let sensing = is_sensing(Form::Flags, s, t, a);
     if sensing {
         let marks = state_of(d, p);
         let runs = can_be_run(s, t, a, &marks);
         if runs {
-            let f = first_unknown(s, t, a, &marks);
+            let f = first_unknown(Form::Flags, s, t, a, &marks);
             let counted = l.cites;
             let cited = wide(d[counted]);
             match each_reading(layout, s, t, d, places, a, f, marks, lines, i, 0) {

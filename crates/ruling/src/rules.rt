@@ -3,6 +3,7 @@ ghost use Rattle.meaning.specs.Limits.{format};
 ghost use Rattle.steps.specs.Held.{table-in};
 ghost use Rattle.steps.specs.AtHand.{At-hand};
 ghost use Rattle.comparing.specs.RuleAnswers.{Some-line, Ruled, Ruled-by, Ruled-by-two};
+ghost use Rattle.meaning.specs.declared.Form.the-variants.{Flags};
 use bytes::bytes::wide;
 use bytes::limits;
 use comparing::known::lists_known;
@@ -15,6 +16,7 @@ use comparing::spots::Spot;
 use comparing::spots::same_conclusions;
 use finding::branches::empty;
 use finding::branches::sequence_of;
+use meaning::Form;
 use reading::marks::state_of;
 use reading::notes::Notes;
 use steps::actions::can_be_run;
@@ -32,7 +34,7 @@ pub fn rule_1(d: &[u8], l: Spot) -> bool
     }
     let p = l.line;
     let y = l.conclusion;
-    let plan = sequence_of(d, p);
+    let plan = sequence_of(Form::Flags, d, p);
     let none = empty(d, plan);
     if none {
         return same_lists(d, y, d, p);
@@ -42,16 +44,16 @@ pub fn rule_1(d: &[u8], l: Spot) -> bool
 
 // Rule 2: one action without knowledge lines that can be run in X, and Y is the state after it.
 pub fn rule_2(s: &[u8], t: &Notes, d: &[u8], l: Spot) -> bool
-    requires { ⌜ At-hand (now s) (now t) ⌝ }
+    requires { ⌜ At-hand Flags (now s) (now t) ⌝ }
     requires { ⌜ Some-line (now d) l ⌝ }
-    ensures { λ r. ⌜ Ruled (now (d .entry)) l (rule-2 format (table-in (now (s .entry)))) r ⌝ }
+    ensures { λ r. ⌜ Ruled (now (d .entry)) l (rule-2 format (table-in Flags (now (s .entry)))) r ⌝ }
 {
     if l.fluent {
         return false;
     }
     let p = l.line;
     let y = l.conclusion;
-    let plan = sequence_of(d, p);
+    let plan = sequence_of(Form::Flags, d, p);
     let count = count_of(d, plan);
     if count != 1 {
         return false;
@@ -61,7 +63,7 @@ pub fn rule_2(s: &[u8], t: &Notes, d: &[u8], l: Spot) -> bool
         return false;
     }
     let a = wide(d[first]);
-    let sensing = is_sensing(s, t, a);
+    let sensing = is_sensing(Form::Flags, s, t, a);
     if sensing {
         return false;
     }
@@ -94,9 +96,9 @@ pub fn rule_5(d: &[u8], one: Spot, two: Spot, l: Spot) -> bool
         if meets {
             let ends = same_conclusions(d, two, l);
             if ends {
-                let plan = sequence_of(d, p);
-                let first = sequence_of(d, p1);
-                let second = sequence_of(d, p2);
+                let plan = sequence_of(Form::Flags, d, p);
+                let first = sequence_of(Form::Flags, d, p1);
+                let second = sequence_of(Form::Flags, d, p2);
                 let count = count_of(d, first);
                 let more = count_of(d, second);
                 let a = first + 2;
@@ -129,8 +131,8 @@ pub fn rule_6(d: &[u8], cited: Spot, l: Spot) -> bool
     let p = l.line;
     let starts = within(d, pc, d, p);
     if starts {
-        let given = sequence_of(d, pc);
-        let plan = sequence_of(d, p);
+        let given = sequence_of(Form::Flags, d, pc);
+        let plan = sequence_of(Form::Flags, d, p);
         let f = cited.end;
         let e = l.end;
         let same = same_plans(d, given, f, d, plan, e);
@@ -146,14 +148,14 @@ pub fn rule_6(d: &[u8], cited: Spot, l: Spot) -> bool
 
 // Rule 7: one action that can be run in X and has a knowledge line for the fluent.
 pub fn rule_7(s: &[u8], t: &Notes, d: &[u8], l: Spot) -> bool
-    requires { ⌜ At-hand (now s) (now t) ⌝ }
+    requires { ⌜ At-hand Flags (now s) (now t) ⌝ }
     requires { ⌜ Some-line (now d) l ⌝ }
-    ensures { λ r. ⌜ Ruled (now (d .entry)) l (rule-7 format (table-in (now (s .entry)))) r ⌝ }
+    ensures { λ r. ⌜ Ruled (now (d .entry)) l (rule-7 format (table-in Flags (now (s .entry)))) r ⌝ }
 {
     if l.fluent {
         let p = l.line;
         let y = l.conclusion;
-        let plan = sequence_of(d, p);
+        let plan = sequence_of(Form::Flags, d, p);
         let count = count_of(d, plan);
         if count != 1 {
             return false;
@@ -200,8 +202,8 @@ pub fn rule_8(d: &[u8], cited: Spot, l: Spot) -> bool
         let p = l.line;
         let starts = same_lists(d, pc, d, p);
         if starts {
-            let given = sequence_of(d, pc);
-            let plan = sequence_of(d, p);
+            let given = sequence_of(Form::Flags, d, pc);
+            let plan = sequence_of(Form::Flags, d, p);
             let g = cited.end;
             let e = l.end;
             return same_plans(d, given, g, d, plan, e);

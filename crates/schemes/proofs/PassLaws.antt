@@ -20,7 +20,7 @@ use Rattle.reading.specs.Listed.{listed}
 use Rattle.steps.specs.Held.{plan-in, request-in}
 use Rattle.steps.specs.AtHand.{At-hand}
 use Rattle.steps.specs.Rests.{rest-at, start}
-use Rattle.steps.proofs.FirstLaws.{rest-first, first-is, at-is}
+use Rattle.steps.proofs.FirstLaws.{rest-first, first-flags, at-is}
 use Rattle.writing.specs.Progress.{so-far, add, line-count, byte-count, standing, progress-slots, Underway}
 use Rattle.writing.proofs.ProgressLaws.{add-within, add-above, stands-over, stands-so-far, over-stands}
 use Rattle.steps.proofs.StoreLaws.{store-before, stores-behind}
@@ -28,6 +28,7 @@ use Rattle.schemes.specs.declared.scheme.Size.{Size}
 use Rattle.schemes.specs.Narrow.{narrow-from, Narrow-from, lines-at}
 use Rattle.schemes.specs.Put.{Put}
 use Rattle.schemes.specs.Sizes.{Lined, Measured}
+use Rattle.meaning.specs.declared.Form.the-variants.{Flags}
 
 -- THE START: no line, behind two bytes.
 pub opens-underway : Underway (set (replicate progress-slots 0) 1 2)
@@ -56,23 +57,23 @@ module _ (progress room : List ℕ) (n b : ℕ) (other : List ℕ) (is : standin
   room-is = let same = stands-as in cc
 
 -- THE WHOLE PLAN, from its first position and the first state.
-module _ (s t : List ℕ) (here : At-hand s t) (items at : ℕ) (counted : items ≡ getD t items-slot 0) (starts : at ≡ start items) (marks : State) (is : marks ≡ state-of format (listed s 2)) where
-  whole-left : rest-at (plan-in s t) at ≡ plan-in s t
-  whole-left = ap (rest-at (plan-in s t)) (at-is s t here items at counted starts) ∙ rest-first (plan-in s t)
+module _ (s t : List ℕ) (here : At-hand Flags s t) (items at : ℕ) (counted : items ≡ getD t items-slot 0) (starts : at ≡ start items) (marks : State) (is : marks ≡ state-of format (listed s 2)) where
+  whole-left : rest-at (plan-in Flags s t) at ≡ plan-in Flags s t
+  whole-left = ap (rest-at (plan-in Flags s t)) (at-is s t here items at counted starts) ∙ rest-first (plan-in Flags s t)
 
-  pub whole-narrow : Verified (narrow-walk-of format (request-in s t)) → Narrow-from s t at marks
+  pub whole-narrow : Verified (narrow-walk-of format (request-in Flags s t)) → Narrow-from s t at marks
   unfolding narrow-from walked-narrow request-in
-  whole-narrow good = rw (whole-left, first-is s t here marks is) good
+  whole-narrow good = rw (whole-left, first-flags s t here marks is) good
 
-  whole-lines : lines-at s t at marks 0 ≡ derivation-of format (request-in s t)
+  whole-lines : lines-at s t at marks 0 ≡ derivation-of format (request-in Flags s t)
   unfolding lines-at derivation-of request-in
-  whole-lines = rw (whole-left, first-is s t here marks is)
+  whole-lines = rw (whole-left, first-flags s t here marks is)
 
   pub plan-lined : (room progress room′ : List ℕ) → Put (lines-at s t at marks (line-count (set (replicate progress-slots 0) 1 2))) (set (replicate progress-slots 0) 1 2) room progress room′
-      → Lined (derivation-of format (request-in s t)) room (record { lines = getD progress 0 0; bytes = getD progress 1 0 }) room′
+      → Lined (derivation-of format (request-in Flags s t)) room (record { lines = getD progress 0 0; bytes = getD progress 1 0 }) room′
   unfolding line-count byte-count
   plan-lined room progress room′ put =
-      let ls : List Line = derivation-of format (request-in s t) in
+      let ls : List Line = derivation-of format (request-in Flags s t) in
       let puts : standing progress room′ ≡ add (so-far 0 2 room) ls = put .stands ∙ ap₂ add (opens room) whole-lines in
       let within : length ls ≤ format .lines → standing progress room′ ≡ so-far (0 + length ls) (2 + length (lines-written Plain ls)) (sets room 2 (lines-written Plain ls)) =
       λ few. puts ∙ add-within 0 2 room ls (omega arith) in

@@ -13,21 +13,22 @@ use Rattle.reading.specs.Planned.{items-of}
 use Rattle.steps.specs.Held.{table-in, plan-in, request-in}
 use Rattle.steps.specs.Rests.{rest-at}
 use Rattle.steps.specs.Steps.{unknown-above}
+use Rattle.meaning.specs.declared.Form.the-variants.{Flags}
 
 -- FROM A POSITION of the plan on.
 unfoldable pub narrow-from : (s t : List ℕ) → (at : ℕ) → State → Walked State
-narrow-from s t at = walk (narrow-step (table-in s)) (rest-at (plan-in s t) at) (judged (request-in s t))
+narrow-from s t at = walk (narrow-step (table-in Flags s)) (rest-at (plan-in Flags s t) at) (judged (request-in Flags s t))
 
 abbrev pub Narrow-from : (s t : List ℕ) → (at : ℕ) → State → Type 0
 Narrow-from s t at marks = Verified (narrow-from s t at marks)
 
 unfoldable pub lines-at : (s t : List ℕ) → (at : ℕ) → Writes
-lines-at s t at = lines-from (request-in s t) (rest-at (plan-in s t) at)
+lines-at s t at = lines-from (request-in Flags s t) (rest-at (plan-in Flags s t) at)
 
 -- THE READINGS of fluent f and of the unknown ones above it that the action senses, or of none where f is the limit of fluents; each is followed by what is left
 -- from a position on.
 unfoldable pub fluents-from : (s : List ℕ) → (action f : ℕ) → State → List ℕ
-fluents-from s a f marks = pick (ltb f (format .fluents)) (λ _. f ∷ unknown-above (table-in s) a marks (f + 1)) (λ _. [])
+fluents-from s a f marks = pick (ltb f (format .fluents)) (λ _. f ∷ unknown-above (table-in Flags s) a marks (f + 1)) (λ _. [])
 
 unfoldable pub narrow-readings : (s t : List ℕ) → (action at f : ℕ) → State → Walked State
 narrow-readings s t a at f marks = each-reading (readings (fluents-from s a f marks) marks) (narrow-from s t at)
@@ -40,8 +41,8 @@ readings-at s t a at f marks = read-lines (readings (fluents-from s a f marks) m
 
 -- ITEM i is this action.
 pub record Acts (s t : List ℕ) (i action : ℕ) : Type 0 where
-  pub there : i < items-of (plan-in s t)
+  pub there : i < items-of (plan-in Flags s t)
   pub small : action < format .actions
   pub place : ℕ
   pub after : Sequence ℕ
-  pub is : rest-at (plan-in s t) i ≡ item (act place action) after
+  pub is : rest-at (plan-in Flags s t) i ≡ item (act place action) after

@@ -19,9 +19,11 @@ ghost use Rattle.writing.specs.Progress.{line-count, Underway, Cited};
 ghost use Rattle.schemes.specs.Narrow.{Narrow-from, lines-at, fluents-from, Narrow-readings, readings-at, Acts};
 ghost use Rattle.schemes.specs.Put.{Cites-more, Put, Readings-put};
 ghost use Rattle.schemes.specs.Sizes.{Lined, Measured};
+ghost use Rattle.meaning.specs.declared.Form.the-variants.{Flags};
 use bytes::bytes::wide;
 use bytes::limits;
 use finding::places::Found;
+use meaning::Form;
 use reading::marks::Marks;
 use reading::marks::state_of;
 use reading::notes;
@@ -67,12 +69,12 @@ fn put_next(
     room: &mut [u8],
     progress: &mut Progress,
 )
-    requires { ⌜ At-hand (now s) (now t) ⌝ }
-    requires { ⌜ Position (plan-in (now s) (now t)) at ⌝ }
+    requires { ⌜ At-hand Flags (now s) (now t) ⌝ }
+    requires { ⌜ Position (plan-in Flags (now s) (now t)) at ⌝ }
     requires { ⌜ Marked (now marks) ⌝ }
     requires { ⌜ Underway (now progress) ⌝ }
     requires { ⌜ 0 < line-count (now progress) ⌝ }
-    ensures { λ _. ⌜ Put (line-of (now (marks .entry)) (rest-at (plan-in (now (s .entry)) (now (t .entry))) at) (goals-of (request-in (now (s .entry)) (now (t .entry)))) rule ((line-count (now (progress .entry)) - 1) ∷ []) ∷ []) (now (progress .entry)) (now (room .entry)) (now (progress .exit)) (now (room .exit)) ⌝ }
+    ensures { λ _. ⌜ Put (line-of (now (marks .entry)) (rest-at (plan-in Flags (now (s .entry)) (now (t .entry))) at) (goals-of (request-in Flags (now (s .entry)) (now (t .entry)))) rule ((line-count (now (progress .entry)) - 1) ∷ []) ∷ []) (now (progress .entry)) (now (room .entry)) (now (progress .exit)) (now (room .exit)) ⌝ }
 {
     let mut cites = [0u16; CITE_SLOTS];
     let previous = progress[0] - 1;
@@ -82,7 +84,7 @@ fn put_next(
 
 // The two lines where nothing is left (FORMAT 24.6).
 fn put_end(s: &[u8], t: &Notes, marks: &Marks, room: &mut [u8], progress: &mut Progress)
-    requires { ⌜ At-hand (now s) (now t) ⌝ }
+    requires { ⌜ At-hand Flags (now s) (now t) ⌝ }
     requires { ⌜ Marked (now marks) ⌝ }
     requires { ⌜ Underway (now progress) ⌝ }
     ensures { λ _. ⌜ Put (lines-at (now (s .entry)) (now (t .entry)) (format .items) (now (marks .entry)) (line-count (now (progress .entry)))) (now (progress .entry)) (now (room .entry)) (now (progress .exit)) (now (room .exit)) ⌝ }
@@ -109,13 +111,13 @@ fn put_composed(
     room: &mut [u8],
     progress: &mut Progress,
 )
-    requires { ⌜ At-hand (now s) (now t) ⌝ }
-    requires { ⌜ Position (plan-in (now s) (now t)) at ⌝ }
+    requires { ⌜ At-hand Flags (now s) (now t) ⌝ }
+    requires { ⌜ Position (plan-in Flags (now s) (now t)) at ⌝ }
     requires { ⌜ Marked (now marks) ⌝ }
     requires { ⌜ first < 65536 ⌝ }
     requires { ⌜ Underway (now progress) ⌝ }
     requires { ⌜ 0 < line-count (now progress) ⌝ }
-    ensures { λ _. ⌜ Put (line-of (now (marks .entry)) (rest-at (plan-in (now (s .entry)) (now (t .entry))) at) (goals-of (request-in (now (s .entry)) (now (t .entry)))) Limits.composition-rule (first ∷ (line-count (now (progress .entry)) - 1) ∷ []) ∷ []) (now (progress .entry)) (now (room .entry)) (now (progress .exit)) (now (room .exit)) ⌝ }
+    ensures { λ _. ⌜ Put (line-of (now (marks .entry)) (rest-at (plan-in Flags (now (s .entry)) (now (t .entry))) at) (goals-of (request-in Flags (now (s .entry)) (now (t .entry)))) Limits.composition-rule (first ∷ (line-count (now (progress .entry)) - 1) ∷ []) ∷ []) (now (progress .entry)) (now (room .entry)) (now (progress .exit)) (now (room .exit)) ⌝ }
 {
     let mut cites = [0u16; CITE_SLOTS];
     let last = progress[0] - 1;
@@ -135,8 +137,8 @@ fn put_composed(
 
 // The plan from a position on.
 fn put_from(s: &[u8], t: &Notes, at: usize, marks: &Marks, room: &mut [u8], progress: &mut Progress)
-    requires { ⌜ At-hand (now s) (now t) ⌝ }
-    requires { ⌜ Position (plan-in (now s) (now t)) at ⌝ }
+    requires { ⌜ At-hand Flags (now s) (now t) ⌝ }
+    requires { ⌜ Position (plan-in Flags (now s) (now t)) at ⌝ }
     requires { ⌜ Marked (now marks) ⌝ }
     requires { ⌜ Narrow-from (now s) (now t) at (now marks) ⌝ }
     requires { ⌜ Underway (now progress) ⌝ }
@@ -157,7 +159,7 @@ fn put_from(s: &[u8], t: &Notes, at: usize, marks: &Marks, room: &mut [u8], prog
     }
     let byte = s[p];
     let a = wide(byte);
-    let sensing = is_sensing(s, t, a);
+    let sensing = is_sensing(Form::Flags, s, t, a);
     if sensing {
         put_sensing(s, t, at, a, marks, room, progress);
         return;
@@ -174,15 +176,15 @@ fn put_branching(
     room: &mut [u8],
     progress: &mut Progress,
 )
-    requires { ⌜ At-hand (now s) (now t) ⌝ }
-    requires { ⌜ i < items-of (plan-in (now s) (now t)) ⌝ }
+    requires { ⌜ At-hand Flags (now s) (now t) ⌝ }
+    requires { ⌜ i < items-of (plan-in Flags (now s) (now t)) ⌝ }
     requires { ⌜ getD (now s) (getD (now t) (0 + i) 0) 0 ≡ 255 ⌝ }
     requires { ⌜ Marked (now marks) ⌝ }
     requires { ⌜ Narrow-from (now s) (now t) i (now marks) ⌝ }
     requires { ⌜ Underway (now progress) ⌝ }
     ensures { λ _. ⌜ Put (lines-at (now (s .entry)) (now (t .entry)) i (now (marks .entry)) (line-count (now (progress .entry)))) (now (progress .entry)) (now (room .entry)) (now (progress .exit)) (now (room .exit)) ⌝ }
 {
-    match chosen(s, t, i, marks) {
+    match chosen(Form::Flags, s, t, i, marks) {
         Found::At(at) => {
             put_from(s, t, at, marks, room, progress);
             put_next(s, t, i, marks, rule_bytes::BRANCHING_RULE, room, progress);
@@ -204,9 +206,9 @@ fn put_acting(
     room: &mut [u8],
     progress: &mut Progress,
 )
-    requires { ⌜ At-hand (now s) (now t) ⌝ }
+    requires { ⌜ At-hand Flags (now s) (now t) ⌝ }
     requires { ⌜ Acts (now s) (now t) i a ⌝ }
-    requires { ⌜ sensing (table-in (now s)) a ≡ false ⌝ }
+    requires { ⌜ sensing (table-in Flags (now s)) a ≡ false ⌝ }
     requires { ⌜ Marked (now marks) ⌝ }
     requires { ⌜ Narrow-from (now s) (now t) i (now marks) ⌝ }
     requires { ⌜ Underway (now progress) ⌝ }
@@ -216,7 +218,7 @@ fn put_acting(
     let action = wide(a);
     let after = state_after(s, t, action, marks);
     put_action(a, marks, &after, room, progress);
-    let at = follow(s, t, i);
+    let at = follow(Form::Flags, s, t, i);
     put_from(s, t, at, &after, room, progress);
     put_composed(s, t, i, marks, first, room, progress);
 }
@@ -231,16 +233,16 @@ fn put_sensing(
     room: &mut [u8],
     progress: &mut Progress,
 )
-    requires { ⌜ At-hand (now s) (now t) ⌝ }
+    requires { ⌜ At-hand Flags (now s) (now t) ⌝ }
     requires { ⌜ Acts (now s) (now t) i a ⌝ }
-    requires { ⌜ sensing (table-in (now s)) a ≡ true ⌝ }
+    requires { ⌜ sensing (table-in Flags (now s)) a ≡ true ⌝ }
     requires { ⌜ Marked (now marks) ⌝ }
     requires { ⌜ Narrow-from (now s) (now t) i (now marks) ⌝ }
     requires { ⌜ Underway (now progress) ⌝ }
     ensures { λ _. ⌜ Put (lines-at (now (s .entry)) (now (t .entry)) i (now (marks .entry)) (line-count (now (progress .entry)))) (now (progress .entry)) (now (room .entry)) (now (progress .exit)) (now (room .exit)) ⌝ }
 {
-    let at = follow(s, t, i);
-    let f = first_unknown(s, t, a, marks);
+    let at = follow(Form::Flags, s, t, i);
+    let f = first_unknown(Form::Flags, s, t, a, marks);
     let mut cites = [0u16; CITE_SLOTS];
     put_readings(s, t, a, at, f, marks, &mut cites, room, progress);
     put_goals(
@@ -268,9 +270,9 @@ fn put_readings(
     room: &mut [u8],
     progress: &mut Progress,
 )
-    requires { ⌜ At-hand (now s) (now t) ⌝ }
+    requires { ⌜ At-hand Flags (now s) (now t) ⌝ }
     requires { ⌜ a < format .actions ⌝ }
-    requires { ⌜ Position (plan-in (now s) (now t)) at ⌝ }
+    requires { ⌜ Position (plan-in Flags (now s) (now t)) at ⌝ }
     requires { ⌜ Marked (now marks) ⌝ }
     requires { ⌜ Narrow-readings (now s) (now t) a at f (now marks) ⌝ }
     requires { ⌜ Cited (now cites) ⌝ }
@@ -282,7 +284,7 @@ fn put_readings(
         let above = f + 1;
         let mut state = *marks;
         state[f] = limits::TRUE_MARK;
-        let g = next_unknown(s, t, a, above, &state);
+        let g = next_unknown(Form::Flags, s, t, a, above, &state);
         put_readings(s, t, a, at, g, &state, cites, room, progress);
         state[f] = limits::FALSE_MARK;
         put_readings(s, t, a, at, g, &state, cites, room, progress);
@@ -301,9 +303,9 @@ pub struct Size {
 
 // The lines of the whole plan from the first state, behind two bytes that are left for their number.
 fn put_plan(s: &[u8], t: &Notes, room: &mut [u8]) -> Size
-    requires { ⌜ At-hand (now s) (now t) ⌝ }
-    requires { ⌜ Verified (narrow-walk-of format (request-in (now s) (now t))) ⌝ }
-    ensures { λ r. ⌜ Lined (derivation-of format (request-in (now (s .entry)) (now (t .entry)))) (now (room .entry)) r (now (room .exit)) ⌝ }
+    requires { ⌜ At-hand Flags (now s) (now t) ⌝ }
+    requires { ⌜ Verified (narrow-walk-of format (request-in Flags (now s) (now t))) ⌝ }
+    ensures { λ r. ⌜ Lined (derivation-of format (request-in Flags (now (s .entry)) (now (t .entry)))) (now (room .entry)) r (now (room .exit)) ⌝ }
 {
     let marks = state_of(s, 2);
     let items = get(t, notes::ITEMS);
@@ -319,9 +321,9 @@ fn put_plan(s: &[u8], t: &Notes, room: &mut [u8]) -> Size
 
 // The first pass: how long the derivation is.
 pub fn measure(s: &[u8], t: &Notes) -> Size
-    requires { ⌜ At-hand (now s) (now t) ⌝ }
-    requires { ⌜ Verified (narrow-walk-of format (request-in (now s) (now t))) ⌝ }
-    ensures { λ r. ⌜ Measured (derivation-of format (request-in (now (s .entry)) (now (t .entry)))) r ⌝ }
+    requires { ⌜ At-hand Flags (now s) (now t) ⌝ }
+    requires { ⌜ Verified (narrow-walk-of format (request-in Flags (now s) (now t))) ⌝ }
+    ensures { λ r. ⌜ Measured (derivation-of format (request-in Flags (now (s .entry)) (now (t .entry)))) r ⌝ }
 {
     let mut none = [0u8; 1];
     put_plan(s, t, &mut none)
@@ -329,11 +331,11 @@ pub fn measure(s: &[u8], t: &Notes) -> Size
 
 // The second pass: the derivation is put at the start of a room that has the bytes (FORMAT 24.10).
 pub fn write(s: &[u8], t: &Notes, room: &mut [u8])
-    requires { ⌜ At-hand (now s) (now t) ⌝ }
-    requires { ⌜ Verified (narrow-walk-of format (request-in (now s) (now t))) ⌝ }
-    requires { ⌜ length (derivation-of format (request-in (now s) (now t))) ≤ format .lines ⌝ }
-    requires { ⌜ length (derivation-bytes (derivation-of format (request-in (now s) (now t)))) ≤ length (now room) ⌝ }
-    ensures { λ _. ⌜ now (room .exit) ≡ derivation-bytes (derivation-of format (request-in (now (s .entry)) (now (t .entry)))) ++ drop (length (derivation-bytes (derivation-of format (request-in (now (s .entry)) (now (t .entry)))))) (now (room .entry)) ⌝ }
+    requires { ⌜ At-hand Flags (now s) (now t) ⌝ }
+    requires { ⌜ Verified (narrow-walk-of format (request-in Flags (now s) (now t))) ⌝ }
+    requires { ⌜ length (derivation-of format (request-in Flags (now s) (now t))) ≤ format .lines ⌝ }
+    requires { ⌜ length (derivation-bytes (derivation-of format (request-in Flags (now s) (now t)))) ≤ length (now room) ⌝ }
+    ensures { λ _. ⌜ now (room .exit) ≡ derivation-bytes (derivation-of format (request-in Flags (now (s .entry)) (now (t .entry)))) ++ drop (length (derivation-bytes (derivation-of format (request-in Flags (now (s .entry)) (now (t .entry)))))) (now (room .entry)) ⌝ }
 {
     let size = put_plan(s, t, room);
     put_number(room, 0, size.lines);

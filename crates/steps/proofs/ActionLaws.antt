@@ -35,15 +35,16 @@ use Rattle.steps.specs.LinesFound.{run-places, effect-places, short-at, 
 use Rattle.steps.proofs.Served.{runs-at-hand, effects-at-hand}
 use Rattle.steps.proofs.Sweeps.{mark-some, undone, turned, turn-is, swept-one, swept-at}
 use Rattle.steps.proofs.LookLaws.{marked-set}
+use Rattle.meaning.specs.declared.Form.the-variants.{Flags}
 
 -- EXECUTABILITY LINES.
 -- What asking gives where no line allows the action.
 abbrev pub near : (s : List ℕ) (a : ℕ) (marks : State) → Runs
-near s a marks = nearest (known marks) (executability-of (table-in s) a)
+near s a marks = nearest (known marks) (executability-of (table-in Flags s) a)
 
 pub record Running (s t : List ℕ) (a : ℕ) (marks : State) (k : ℕ) : Type 0 where
   pub ahead : Runs-ahead s t k
-  pub same : asked (table-in s) a marks ≡ first-allowing-at s (known marks) (ahead .rest) (λ _. near s a marks)
+  pub same : asked (table-in Flags s) a marks ≡ first-allowing-at s (known marks) (ahead .rest) (λ _. near s a marks)
 
 -- The best line before line k stands at `best` and is short by `fewest`.
 pub record Nearing (s t : List ℕ) (a : ℕ) (marks : State) (best fewest k : ℕ) : Type 0 where
@@ -54,9 +55,9 @@ positive : (k : ℕ) → (k ≡ 0 → ⊥) → 0 < k
 positive k some = by-test (eqb k 0) (λ t. absurd (some (eqb-true _ _ t))) (λ f. let other = eqb-false k 0 f in omega (arith, other))
 
 -- All the action's lines.
-module _ (s t : List ℕ) (a : ℕ) (k : ℕ) (here : At-hand s t) (small : a < format .actions) (at : k ≡ first-line t run-lines a) where
+module _ (s t : List ℕ) (a : ℕ) (k : ℕ) (here : At-hand Flags s t) (small : a < format .actions) (at : k ≡ first-line t run-lines a) where
   abbrev runs-all : Runs-ahead s t k
-  runs-all = ahead-starts (λ (p : ℕ). List-here all-literals s (p + 1)) t run-lines a (run-places s a) (here .runs a small) (runs-at-hand s t here a .lines) k at
+  runs-all = ahead-starts (λ (p : ℕ). List-here all-literals s (p + 1)) t run-lines a (run-places Flags s a) (here .runs a small) (runs-at-hand s t here a .lines) k at
 
   pub running-starts : (marks : State) → Running s t a marks k
   unfolding asked ahead-starts
@@ -96,7 +97,7 @@ module _ (s t : List ℕ) (a : ℕ) (k : ℕ) (here : At-hand s t) (small : a < 
           }
 
 module _ (s t : List ℕ) (a : ℕ) (marks : State) (k : ℕ) (run : Running s t a marks k) where
-  pub running-done : k ≤ 0 → (r : Runs) → r ≡ near s a marks → r ≡ asked (table-in s) a marks
+  pub running-done : k ≤ 0 → (r : Runs) → r ≡ near s a marks → r ≡ asked (table-in Flags s) a marks
   unfolding first-allowing-at
   running-done h r is =
       is ∙ sym (run .same ∙ ap (λ (ps : List ℕ). first-allowing-at s (known marks) ps (λ _. near s a marks)) (ahead-none _ t run-lines k (run .ahead) h))
@@ -112,12 +113,12 @@ module _ (s t : List ℕ) (a : ℕ) (marks : State) (k : ℕ) (run : Running s t
     run-body-fits room = let ends = run-body .ends in let most = room .fits in record { fits = omega arith }
 
     module _ (b : Bool) (tested : b ≡ each-of (holds-as Known marks) (listed s (p + 1))) where
-      run-whole : asked (table-in s) a marks ≡ pick b (λ _. By p) (λ _. first-allowing-at s (known marks) others (λ _. near s a marks))
+      run-whole : asked (table-in Flags s) a marks ≡ pick b (λ _. By p) (λ _. first-allowing-at s (known marks) others (λ _. near s a marks))
       unfolding others first-allowing-at holds-as
       run-whole =
           run .same ∙ ap (λ (ps : List ℕ). first-allowing-at s (known marks) ps (λ _. near s a marks)) (line-rest _ t run-lines k (run .ahead) more p at) ∙ rw tested
 
-      pub run-met : b ≡ true → By p ≡ asked (table-in s) a marks
+      pub run-met : b ≡ true → By p ≡ asked (table-in Flags s) a marks
       run-met e = sym (run-whole ∙ pick-true _ _ _ e)
 
       pub run-next : (j : ℕ) → b ≡ false → j ≡ next-line t run-lines k → Running s t a marks j
@@ -156,29 +157,29 @@ module _ (s t : List ℕ) (a : ℕ) (marks : State) (best fewest k : ℕ) (nears
       near-kept not = record { ahead = line-others _ t run-lines k (nears .ahead) more j onward; same = near-whole ∙ ap Short (pick-false _ _ _ (le-ltb _ _ not)) }
 
 -- WHETHER IT CAN BE RUN.
-module _ (s : List ℕ) (a : ℕ) (marks : State) (r : Runs) (is : r ≡ asked (table-in s) a marks) where
-  runs-is : can-be-run (table-in s) a marks ≡ allows r
-  runs-is = can-be-run-asked (table-in s) a marks ∙ ap allows (sym is)
+module _ (s : List ℕ) (a : ℕ) (marks : State) (r : Runs) (is : r ≡ asked (table-in Flags s) a marks) where
+  runs-is : can-be-run (table-in Flags s) a marks ≡ allows r
+  runs-is = can-be-run-asked (table-in Flags s) a marks ∙ ap allows (sym is)
 
-  pub runs-by : (p : ℕ) → r ≡ By p → true ≡ can-be-run (table-in s) a marks
+  pub runs-by : (p : ℕ) → r ≡ By p → true ≡ can-be-run (table-in Flags s) a marks
   unfolding allows
   runs-by p e = sym (runs-is ∙ ap allows e)
 
-  pub runs-short : (p : ℕ) → r ≡ Short p → false ≡ can-be-run (table-in s) a marks
+  pub runs-short : (p : ℕ) → r ≡ Short p → false ≡ can-be-run (table-in Flags s) a marks
   unfolding allows
   runs-short p e = sym (runs-is ∙ ap allows e)
 
-  pub runs-never : r ≡ Never → false ≡ can-be-run (table-in s) a marks
+  pub runs-never : r ≡ Never → false ≡ can-be-run (table-in Flags s) a marks
   unfolding allows
   runs-never e = sym (runs-is ∙ ap allows e)
 
 -- EFFECTS.
 abbrev pub Effects-ahead : (s t : List ℕ) (k : ℕ) → Type 0
-Effects-ahead s t k = Ahead (Effect-here s) t effect-lines k
+Effects-ahead s t k = Ahead (Effect-here Flags s) t effect-lines k
 
 module _ (s t : List ℕ) (k : ℕ) (ahead : Effects-ahead s t k) (more : 0 < k) (p : ℕ) (at : p ≡ line-place t effect-lines k) where
-  effect-line : Effect-here s p
-  effect-line = line-fit (Effect-here s) t effect-lines k ahead more p at
+  effect-line : Effect-here Flags s p
+  effect-line = line-fit (Effect-here Flags s) t effect-lines k ahead more p at
 
   pub effect-body : List-here all-literals s (p + 2)
   effect-body = effect-line .body
@@ -204,31 +205,31 @@ third m mark least most small not some = omega (arith, not, some)
 pub record Sweeping (s t : List ℕ) (a : ℕ) (marks next : State) (k : ℕ) : Type 0 where
   pub ahead : Effects-ahead s t k
   pub marked : Marked next
-  pub same : swept-at s marks (effect-places s a) marks ≡ swept-at s marks (ahead .rest) next
+  pub same : swept-at s marks (effect-places Flags s a) marks ≡ swept-at s marks (ahead .rest) next
 
-pub sweeping-starts : (s t : List ℕ) (a k : ℕ) (marks : State) → At-hand s t → a < format .actions → Marked marks → k ≡ first-line t effect-lines a → Sweeping s t a marks marks k
+pub sweeping-starts : (s t : List ℕ) (a k : ℕ) (marks : State) → At-hand Flags s t → a < format .actions → Marked marks → k ≡ first-line t effect-lines a → Sweeping s t a marks marks k
 unfolding ahead-starts
 sweeping-starts s t a k marks here small fine at = record {
-  ahead = ahead-starts (Effect-here s) t effect-lines a (effect-places s a) (here .effects a small) (effects-at-hand s t here a .lines) k at;
+  ahead = ahead-starts (Effect-here Flags s) t effect-lines a (effect-places Flags s a) (here .effects a small) (effects-at-hand s t here a .lines) k at;
   marked = fine;
   same = refl;
 }
 
 module _ (s t : List ℕ) (a : ℕ) (marks next : State) (k : ℕ) (sweeps : Sweeping s t a marks next k) where
-  pub sweep-done : k ≤ 0 → swept-at s marks (effect-places s a) marks ≡ next
+  pub sweep-done : k ≤ 0 → swept-at s marks (effect-places Flags s a) marks ≡ next
   unfolding swept-at
-  sweep-done h = sweeps .same ∙ ap (λ (qs : List ℕ). swept-at s marks qs next) (ahead-none (Effect-here s) t effect-lines k (sweeps .ahead) h)
+  sweep-done h = sweeps .same ∙ ap (λ (qs : List ℕ). swept-at s marks qs next) (ahead-none (Effect-here Flags s) t effect-lines k (sweeps .ahead) h)
 
   module _ (more : 0 < k) (p j : ℕ) (at : p ≡ line-place t effect-lines k) (onward : j ≡ next-line t effect-lines k) where
     sweep-on : (after : State) → Marked after → swept-one s marks p next ≡ after → Sweeping s t a marks after j
     unfolding swept-at line-others
     sweep-on after fine e = record {
-      ahead = line-others (Effect-here s) t effect-lines k (sweeps .ahead) more j onward;
+      ahead = line-others (Effect-here Flags s) t effect-lines k (sweeps .ahead) more j onward;
       marked = fine;
       same =
           sweeps .same
-          ∙ ap (λ (qs : List ℕ). swept-at s marks qs next) (line-rest (Effect-here s) t effect-lines k (sweeps .ahead) more p at)
-          ∙ ap (swept-at s marks (ahead-first (Effect-here s) t effect-lines k (sweeps .ahead) more .others)) e;
+          ∙ ap (λ (qs : List ℕ). swept-at s marks qs next) (line-rest (Effect-here Flags s) t effect-lines k (sweeps .ahead) more p at)
+          ∙ ap (swept-at s marks (ahead-first (Effect-here Flags s) t effect-lines k (sweeps .ahead) more .others)) e;
     }
 
     module _ (l mark : ℕ) (is : l ≡ getD s (p + 1) 0) (marked : mark ≡ mark-of l) where

@@ -36,6 +36,7 @@ use Rattle.steps.proofs.Served.{effects-at-hand}
 use Rattle.steps.proofs.Sweeps.{mark-some, undone, swept-one, swept-at}
 use Rattle.steps.proofs.LookLaws.{marked-set}
 use Rattle.steps.proofs.ActionLaws.{Sweeping, sweep-done}
+use Rattle.meaning.specs.declared.Form.the-variants.{Flags}
 
 -- ONE LITERAL.
 -- Told a literal, with the complement of another left alone.
@@ -90,7 +91,7 @@ module _ (x l : ℕ) (next : State) (within : fluent-of x < length next) where
       (λ e. undone-other (eqb-false _ _ e) ∙ sym (rw e (both-all (known next l))))
 
 -- ONE EFFECT, whose body passes the test or not.
-module _ (s : List ℕ) (p : ℕ) (line : Effect-here s p) (next : State) (marked : Marked next) where
+module _ (s : List ℕ) (p : ℕ) (line : Effect-here Flags s p) (next : State) (marked : Marked next) where
   abbrev gives : ℕ
   gives = getD s (p + 1) 0
 
@@ -191,12 +192,12 @@ in-turn false true false gs hs apart = refl
 in-turn false false false gs hs apart = refl
 
 module _ (s : List ℕ) (marks : State) where
-  swept-at-marked : (ps : List ℕ) → ((p : ℕ) → Has ps p → Effect-here s p) → (next : State) → Marked next → Marked (swept-at s marks ps next)
+  swept-at-marked : (ps : List ℕ) → ((p : ℕ) → Has ps p → Effect-here Flags s p) → (next : State) → Marked next → Marked (swept-at s marks ps next)
   unfolding swept-at
   swept-at-marked [] lines next marked = marked
   swept-at-marked (p ∷ ps) lines next marked = swept-at-marked ps (λ q h. lines q (inr h)) _ (swept-marked s p (lines p (inl refl)) next marked marks)
 
-  swept-known : (ps : List ℕ) → ((p : ℕ) → Has ps p → Effect-here s p) → (next : State) → Marked next → (l : ℕ)
+  swept-known : (ps : List ℕ) → ((p : ℕ) → Has ps p → Effect-here Flags s p) → (next : State) → Marked next → (l : ℕ)
       → (given-at s (known marks) ps l ≡ true → given-at s (possible marks) ps (complement l) ≡ true → ⊥)
       → known (swept-at s marks ps next) l ≡ both (either (known next l) (given-at s (known marks) ps l)) (fails (given-at s (possible marks) ps (complement l)))
   unfolding swept-at given-at some-of fails
@@ -216,7 +217,7 @@ mark-told m most =
     (λ f. eqb-true _ _ f ∙ sym (pick-false _ _ _ e ∙ pick-true _ _ _ f))
     (λ f. let one = eqb-false m 1 e in let two = eqb-false m 2 f in let none : m ≡ 0 = omega arith in none ∙ sym (pick-false _ _ _ e ∙ pick-false _ _ _ f)))
 
-module _ (s : List ℕ) (marks : State) (marked : Marked marks) (ps : List ℕ) (lines : (p : ℕ) → Has ps p → Effect-here s p) (t : Table) (a : ℕ)
+module _ (s : List ℕ) (marks : State) (marked : Marked marks) (ps : List ℕ) (lines : (p : ℕ) → Has ps p → Effect-here Flags s p) (t : Table) (a : ℕ)
     (same : (test : ℕ → Bool) (l : ℕ) → given-at s test ps l ≡ given test (effects-of t a) l) where
   module _ (r : State) (fine : Marked r) (says : (l : ℕ) → known r l ≡ known-after (effects-of t a) marks l) where
     mark-is : (f : ℕ) → getD r f 0 ≡ mark-after (effects-of t a) marks f
@@ -242,9 +243,9 @@ module _ (s : List ℕ) (marks : State) (marked : Marked marks) (ps : List ℕ) 
 pub runs-there : (t : Table) (a : ℕ) (marks : State) (runs : Bool) → runs ≡ can-be-run t a marks → runs ≡ true → can-be-run t a marks ≡ true
 runs-there t a marks runs asked e = sym asked ∙ e
 
-pub after-swept : (s t : List ℕ) (a : ℕ) (marks next : State) (k : ℕ) → At-hand s t → Marked marks → can-be-run (table-in s) a marks ≡ true
-    → Sweeping s t a marks next k → k ≤ 0 → next ≡ state-after (table-in s) a marks
+pub after-swept : (s t : List ℕ) (a : ℕ) (marks next : State) (k : ℕ) → At-hand Flags s t → Marked marks → can-be-run (table-in Flags s) a marks ≡ true
+    → Sweeping s t a marks next k → k ≤ 0 → next ≡ state-after (table-in Flags s) a marks
 after-swept s t a marks next k here marked runs sweeps h =
     let all = effects-at-hand s t here a in
     sym (sweep-done s t a marks next k sweeps h)
-    ∙ swept-after s marks marked (effect-places s a) (all .lines) (table-in s) a (all .same) (given-apart (table-in s) (here .no-contradiction) a marks runs)
+    ∙ swept-after s marks marked (effect-places Flags s a) (all .lines) (table-in Flags s) a (all .same) (given-apart (table-in Flags s) (here .no-contradiction) a marks runs)

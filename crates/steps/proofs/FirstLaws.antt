@@ -3,24 +3,32 @@
 use Prim.Native.Nat.{ℕ}
 use native.Mathlib.Omega.{arith}
 use mathlib.Core.Path.{_≡_, refl, sym, _∙_, ap}
-use mathlib.Core.List.{List}
+use mathlib.Core.List.{List, map}
 use lib.ListN.{getD}
 use lib.Dec.{eqb}
 use borrow.Author.Tests.{eqb-true, eqb-false, eq-eqb, ne-eqb, le-leb}
 use Rattle.meaning.specs.Limits.{format}
 use Rattle.meaning.specs.Requests.{Sequence, done, item}
 use Rattle.meaning.specs.States.{State, state-of, first-state}
+use Rattle.meaning.specs.Tests.{those-of}
+use Rattle.meaning.specs.Reading.{literals-in}
+use Rattle.meaning.specs.Values.{numbers, values-of, fits}
+use Rattle.meaning.specs.ValueStates as Value
+use Rattle.meaning.specs.ValueStates.{mark-left}
+use Rattle.meaning.specs.declared.Form.the-variants.{Flags, Valued}
 use Rattle.meaning.proofs.TestLaws.{by-test, pick-true, pick-false}
 use Rattle.meaning.proofs.SchemeLaws.{join-done}
-use Rattle.reading.specs.Listed.{listed}
+use Rattle.reading.specs.Listed.{listed, listed-as}
+use Rattle.finding.specs.TablesHere.{facts-place}
 use Rattle.reading.specs.Planned.{items-of}
 use Rattle.reading.specs.Noted.{items-slot}
 use Rattle.finding.proofs.PlanHere.{some-item}
 use Rattle.steps.specs.Held.{table-in, plan-in}
 use Rattle.steps.specs.AtHand.{At-hand}
 use Rattle.steps.specs.Rests.{rest-in, rest-at, start, Position}
-use Rattle.steps.specs.Steps.{walk-from, met-from, walk-held}
+use Rattle.steps.specs.Steps.{first-in, walk-from, met-from, walk-held}
 use Rattle.steps.proofs.HandLaws.{starts, few-items, items-are}
+use Rattle.meaning.specs.declared.Form.{Form}
 
 -- THE START.
 pub start-end : (items : ℕ) → items ≡ 0 → format .items ≡ start items
@@ -40,21 +48,27 @@ rest-first (item x b) =
     let zero-is : start (items-of (item x b)) ≡ 0 = sym (start-first (items-of (item x b)) (λ e. omega (arith, some, e))) in
     ap (rest-at (item x b)) zero-is ∙ pick-true _ _ _ (le-leb 0 0 (omega arith)) ∙ ap (item x) (join-done b)
 
--- A REQUEST at hand.
-module _ (s t : List ℕ) (here : At-hand s t) where
-  module _ (marks : State) (is : marks ≡ state-of format (listed s 2)) where
-    pub first-is : marks ≡ first-state format (table-in s)
-    unfolding first-state
-    first-is = is ∙ ap (state-of format) (starts s t here .facts)
+-- THE FIRST STATE, by the list of facts.
+pub first-flags : (s t : List ℕ) (here : At-hand Flags s t) (marks : State) → marks ≡ state-of format (listed s 2) → marks ≡ first-in Flags s
+unfolding first-state
+first-flags s t here marks is = is ∙ ap (state-of format) (starts s t here .facts)
 
+pub first-valued : (s t : List ℕ) (here : At-hand Valued s t) (marks : State)
+    → marks ≡ map (λ (f : ℕ). mark-left (those-of (fits (literals-in s) (listed-as Valued s (facts-place Valued s)) f) (values-of (literals-in s) f))) (numbers 0 (format .state)) → marks ≡ first-in Valued s
+unfolding Value.first-state
+first-valued s t here marks is =
+    is ∙ ap (λ (facts : List ℕ). map (λ (f : ℕ). mark-left (those-of (fits (literals-in s) facts f) (values-of (literals-in s) f))) (numbers 0 (format .state))) (starts s t here .facts)
+
+-- A REQUEST at hand.
+module _ {form : Form} (s t : List ℕ) (here : At-hand form s t) where
   module _ (items at : ℕ) (counted : items ≡ getD t items-slot 0) (starts : at ≡ start items) where
-    counted-are : items ≡ items-of (plan-in s t)
+    counted-are : items ≡ items-of (plan-in form s t)
     counted-are = counted ∙ items-are s t here
 
-    pub at-is : at ≡ start (items-of (plan-in s t))
+    pub at-is : at ≡ start (items-of (plan-in form s t))
     at-is = starts ∙ ap start counted-are
 
-    pub starts-there : Position (plan-in s t) at
+    pub starts-there : Position (plan-in form s t) at
     starts-there =
         let few = few-items s t here in
         by-test (eqb items 0)
@@ -64,6 +78,6 @@ module _ (s t : List ℕ) (here : At-hand s t) where
         let is = starts ∙ sym (start-first items some) in
         record { most = omega (arith, is); there = λ _. omega (arith, is, counted-are, some) })
 
-    pub walks-first : (marks : State) → marks ≡ state-of format (listed s 2) → met-from s t at marks ≡ walk-held s t
+    pub walks-first : (marks : State) → marks ≡ first-in form s → met-from form s t at marks ≡ walk-held form s t
     unfolding walk-from walk-held
-    walks-first marks is = rw (at-is, rest-first (plan-in s t), first-is marks is)
+    walks-first marks is = rw (at-is, rest-first (plan-in form s t), is)

@@ -27,6 +27,7 @@ use Rattle.steps.specs.AtHand.{At-hand, Marked}
 use Rattle.steps.specs.Flags.{flagged, flagged-at, Open-flags}
 use Rattle.steps.proofs.Served.{runs-at-hand, effects-at-hand}
 use Rattle.steps.proofs.LookLaws.{unmarked-unknown, marked-known}
+use Rattle.meaning.specs.declared.Form.the-variants.{Flags}
 
 -- ONE BODY, that stands at p: flagged the entries from the one at i on, the flags are the whole's.
 abbrev pub Flags-ahead : (marks s : List ℕ) (p end : ℕ) (whole flags : List ℕ) (i : ℕ) → Type 0
@@ -62,18 +63,18 @@ pub record Flagging (s t : List ℕ) (lines behind : ℕ) (marks flags whole : L
   pub ahead : Bodies-ahead s t lines behind k
   pub same : whole ≡ flagged-at s marks behind (ahead .rest) flags
 
-module _ (s t : List ℕ) (a k : ℕ) (here : At-hand s t) (small : a < format .actions) (marks flags : State) where
-  pub effects-start : k ≡ first-line t effect-lines a → Flagging s t effect-lines 2 marks flags (flagged-at s marks 2 (effect-places s a) flags) k
+module _ (s t : List ℕ) (a k : ℕ) (here : At-hand Flags s t) (small : a < format .actions) (marks flags : State) where
+  pub effects-start : k ≡ first-line t effect-lines a → Flagging s t effect-lines 2 marks flags (flagged-at s marks 2 (effect-places Flags s a) flags) k
   unfolding ahead-starts
   effects-start at = record {
-    ahead = ahead-starts (λ (p : ℕ). List-here all-literals s (p + 2)) t effect-lines a (effect-places s a) (here .effects a small) (λ p h. effects-at-hand s t here a .lines p h .body) k at;
+    ahead = ahead-starts (λ (p : ℕ). List-here all-literals s (p + 2)) t effect-lines a (effect-places Flags s a) (here .effects a small) (λ p h. effects-at-hand s t here a .lines p h .body) k at;
     same = refl;
   }
 
-  pub runs-start : k ≡ first-line t run-lines a → Flagging s t run-lines 1 marks flags (flagged-at s marks 1 (run-places s a) flags) k
+  pub runs-start : k ≡ first-line t run-lines a → Flagging s t run-lines 1 marks flags (flagged-at s marks 1 (run-places Flags s a) flags) k
   unfolding ahead-starts
   runs-start at = record {
-    ahead = ahead-starts (λ (p : ℕ). List-here all-literals s (p + 1)) t run-lines a (run-places s a) (here .runs a small) (runs-at-hand s t here a .lines) k at;
+    ahead = ahead-starts (λ (p : ℕ). List-here all-literals s (p + 1)) t run-lines a (run-places Flags s a) (here .runs a small) (runs-at-hand s t here a .lines) k at;
     same = refl;
   }
 
@@ -186,8 +187,8 @@ unmarked-is marks f marked =
     (λ e. e ∙ sym (ap fails (marked-known marks f marked (eqb-false _ _ e))))
 
 -- ALL BODIES of the action, from no flag on.
-module _ (s t : List ℕ) (a : ℕ) (marks one r : State) (here : At-hand s t) (marked : Marked marks)
-    (first : one ≡ flagged-at s marks 2 (effect-places s a) (replicate (format .fluents) 0)) (then : r ≡ flagged-at s marks 1 (run-places s a) one) where
+module _ (s t : List ℕ) (a : ℕ) (marks one r : State) (here : At-hand Flags s t) (marked : Marked marks)
+    (first : one ≡ flagged-at s marks 2 (effect-places Flags s a) (replicate (format .fluents) 0)) (then : r ≡ flagged-at s marks 1 (run-places Flags s a) one) where
   abbrev none : List ℕ
   none = replicate (format .fluents) 0
 
@@ -195,16 +196,16 @@ module _ (s t : List ℕ) (a : ℕ) (marks one r : State) (here : At-hand s t) (
   zeros = length-replicate {A = ℕ} (format .fluents) 0
 
   long : length one ≡ format .fluents
-  long = ap length first ∙ at-length s marks 0 2 (effect-places s a) none ∙ zeros
+  long = ap length first ∙ at-length s marks 0 2 (effect-places Flags s a) none ∙ zeros
 
-  flag-is : (f : ℕ) → f < format .fluents → getD r f 0 ≡ pick (both (in-bodies (table-in s) a f) (fails (known-whether marks f))) (λ _. 1) (λ _. 0)
+  flag-is : (f : ℕ) → f < format .fluents → getD r f 0 ≡ pick (both (in-bodies (table-in Flags s) a f) (fails (known-whether marks f))) (λ _. 1) (λ _. 0)
   unfolding in-bodies
   flag-is f near =
       ap (λ (u : List ℕ). getD u f 0) then
-      ∙ at-flag s marks f 1 (run-places s a) one (rw long near)
-      ∙ ap (set-where (both (some-of (in-body-at s marks f 1) (run-places s a)) (unmarked s marks f)))
-      (ap (λ (u : List ℕ). getD u f 0) first ∙ at-flag s marks f 2 (effect-places s a) none (rw zeros near))
-      ∙ set-twice (some-of (in-body-at s marks f 2) (effect-places s a)) (some-of (in-body-at s marks f 1) (run-places s a)) (unmarked s marks f) (getD none f 0)
+      ∙ at-flag s marks f 1 (run-places Flags s a) one (rw long near)
+      ∙ ap (set-where (both (some-of (in-body-at s marks f 1) (run-places Flags s a)) (unmarked s marks f)))
+      (ap (λ (u : List ℕ). getD u f 0) first ∙ at-flag s marks f 2 (effect-places Flags s a) none (rw zeros near))
+      ∙ set-twice (some-of (in-body-at s marks f 2) (effect-places Flags s a)) (some-of (in-body-at s marks f 1) (run-places Flags s a)) (unmarked s marks f) (getD none f 0)
       ∙ rw (
         effects-at-hand s t here a .bodies (in-body f),
         runs-at-hand s t here a .bodies (in-body f),
@@ -212,5 +213,5 @@ module _ (s t : List ℕ) (a : ℕ) (marks one r : State) (here : At-hand s t) (
         getD-replicate {A = ℕ} (format .fluents) f 0 0 near,
       )
 
-  pub open-flagged : Open-flags (table-in s) a marks r
+  pub open-flagged : Open-flags (table-in Flags s) a marks r
   open-flagged = record { flag = flag-is }

@@ -13,7 +13,8 @@ use Rattle.meaning.specs.Tests.{either, pick}
 use Rattle.meaning.specs.Limits.{format, all-literals}
 use Rattle.meaning.specs.Requests.{Knowledge, Table, Request}
 use Rattle.meaning.specs.Reading
-use Rattle.meaning.specs.declared.Form.the-variants.{Flags}
+use Rattle.meaning.specs.declared.Form.{Form}
+use Rattle.meaning.specs.declared.Form.the-variants.{Flags, Valued}
 use Rattle.meaning.specs.Reading.{got, literals, bound-of, plan-at, placed, request-at, read-request}
 use Rattle.meaning.specs.Guards.{Guarded-request, read-guarded}
 use Rattle.meaning.specs.Refusals.{nowhere, contradiction-in}
@@ -23,7 +24,7 @@ use Rattle.bytes.specs.Bits.{bit-of}
 use Rattle.reading.specs.Noted.{none-yet, count-slot, section-noted, table-noted, sensed-from, sensed-to, plan-slot, items-slot, goals-slot, guards-slot, word-bits, pair-slot, pair-there, slots, effects-slot, executability-slot, knowledge-slot}
 use Rattle.reading.specs.Planned.{items-of, plan-noted}
 use Rattle.reading.specs.Requested.{goals-place, plan-place, places-noted, tail-with, tail-noted, request-noted, guards-place, guarded-noted}
-use Rattle.reading.specs.Listed.{listed, List-here}
+use Rattle.reading.specs.Listed.{listed, List-here, listed-as}
 use Rattle.bytes.proofs.BitLaws.{no-bit}
 use Rattle.reading.proofs.PlanSizes.{sequence-read}
 use Rattle.reader.proofs.WholeLaws.{Guards-read, guarded-read}
@@ -31,21 +32,21 @@ use Rattle.finding.specs.PlansHeld.{Plan-held}
 use Rattle.finding.specs.TablesHere.{blank, Of-table, Table-here}
 use Rattle.finding.specs.ReadHere.{Read-here}
 use Rattle.finding.proofs.KeptLaws.{kept}
-use Rattle.finding.proofs.HereLaws.{list-here}
+use Rattle.finding.proofs.HereLaws.{list-here, literals-read}
 use Rattle.finding.proofs.ReadLaws.{Table-parts, table-parts, request-parts, whole-table, table-stays, read-parts, read-comes, read-same, read-tail, read-noted, plain-here, guarded-here, knowledge-good, with-runs, with-knowledge, runs-long, sensed-empty, after-sections, effects-ordered, runs-ordered, items-noted, plan-noted-at, goals-noted, guards-noted, tail-held}
 use Rattle.steps.specs.Held.{plan-of, table-in, plan-in, goals-in, whether-in, guards-at, guards-in, request-in}
 use Rattle.steps.specs.LinesFound.{run-places, effect-places, Senses}
 use Rattle.steps.specs.Rests.{Nexts}
-use Rattle.steps.specs.AtHand.{At-hand}
+use Rattle.steps.specs.AtHand.{contradiction-as, Guards-here, At-hand}
 use Rattle.steps.proofs.SectionsStand.{knowledge-small, Sections-read, request-sections, list-after}
 use Rattle.steps.proofs.SensedLaws.{Sensed, says, seen-after, seen-some, lines-sensed}
 use Rattle.steps.proofs.NextSlots.{nexts-agree, plan-nexts}
 
-module _ (s t : List ℕ) (here : Table-here s t) where
+module _ {form : Form} (s t : List ℕ) (here : Table-here form s t) where
   abbrev x : Table
-  x = table-in s
+  x = table-in form s
 
-  whole : Table-parts s (table-in s) (here .table-end)
+  whole : Table-parts form s (table-in form s) (here .table-end)
   whole = whole-table s t here
 
   -- WHAT AN ACTION SENSES.
@@ -101,13 +102,13 @@ module _ (s t : List ℕ) (here : Table-here s t) where
           (λ l has. (knowledge-good s x (here .table-end) whole l has, knowledge-small s x (here .table-end) whole l has)) nothing
 
   -- It is what its knowledge lines say.
-  senses-is : (a f : ℕ) → seen-after a (λ _. false) (x .knowledge) f ≡ senses (knowledge-of (table-in s) a) f
+  senses-is : (a f : ℕ) → seen-after a (λ _. false) (x .knowledge) f ≡ senses (knowledge-of (table-in form s) a) f
   unfolding senses knowledge-of says either
   senses-is a f =
       seen-some a (λ _. false) (x .knowledge) f
       ∙ sym (some-those (λ (k : Knowledge). eqb (k .action) a) (λ (k : Knowledge). eqb (k .fluent) f) (x .knowledge))
 
-  senses-there : (a : ℕ) → a < format .actions → Senses s t a
+  senses-there : (a : ℕ) → a < format .actions → Senses form s t a
   unfolding senses sensing
   senses-there a small =
       record {
@@ -116,14 +117,14 @@ module _ (s t : List ℕ) (here : Table-here s t) where
         from = λ f e. sensed .from f (senses-is a f ∙ e);
         to = λ f e. sensed .to f (senses-is a f ∙ e);
         last = sensed .last;
-        any = same-test (ltb 0 (getD t (sensed-to + a) 0)) (sensing (table-in s) a)
+        any = same-test (ltb 0 (getD t (sensed-to + a) 0)) (sensing (table-in form s) a)
             (λ e.
             let w = sensed .some (ltb-true _ _ e) in
-            let u = some-has (λ (k : Knowledge). eqb (k .fluent) (w .0)) (knowledge-of (table-in s) a) (sym (senses-is a (w .0)) ∙ w .1) in
-            has-some (λ (k : Knowledge). true) (knowledge-of (table-in s) a) (u .0) (u .1) refl)
+            let u = some-has (λ (k : Knowledge). eqb (k .fluent) (w .0)) (knowledge-of (table-in form s) a) (sym (senses-is a (w .0)) ∙ w .1) in
+            has-some (λ (k : Knowledge). true) (knowledge-of (table-in form s) a) (u .0) (u .1) refl)
             (λ e.
-            let u = some-has (λ (k : Knowledge). true) (knowledge-of (table-in s) a) e in
-            let h = has-some (λ (k : Knowledge). eqb (k .fluent) (u .0 .fluent)) (knowledge-of (table-in s) a) (u .0) (u .1) (eq-eqb (u .0 .fluent) (u .0 .fluent) refl) in
+            let u = some-has (λ (k : Knowledge). true) (knowledge-of (table-in form s) a) e in
+            let h = has-some (λ (k : Knowledge). eqb (k .fluent) (u .0 .fluent)) (knowledge-of (table-in form s) a) (u .0) (u .1) (eq-eqb (u .0 .fluent) (u .0 .fluent) refl) in
             let below = sensed .to (u .0 .fluent) (senses-is a (u .0 .fluent) ∙ h) in
             lt-ltb 0 (getD t (sensed-to + a) 0) (omega arith));
       }
@@ -132,83 +133,86 @@ module _ (s t : List ℕ) (here : Table-here s t) where
       sensed = knowledge-sensed a small
 
 -- A PLAN that was read behind such a table, and noted, with guards at a place.
-module _ (s t : List ℕ) (here : Table-here s t) (g p : ℕ) (y : Request) (q : ℕ) (read : request-at format Flags s (table-in s) p ≡ got y q) where
+module _ {form : Form} (s t : List ℕ) (here : Table-here form s t) (g p : ℕ) (y : Request) (q : ℕ) (read : request-at format form s (table-in form s) p ≡ got y q) where
   abbrev u : List ℕ
-  u = tail-with Flags g y t
+  u = tail-with form g y t
 
-  parts-there : Table-parts s (table-in s) (here .table-end)
+  parts-there : Table-parts form s (table-in form s) (here .table-end)
   parts-there = whole-table s t here
 
-  table-is : table-in s ≡ y .table
-  table-is = sym (request-parts s (table-in s) p y q read .table)
+  table-is : table-in form s ≡ y .table
+  table-is = sym (request-parts form s (table-in form s) p y q read .table)
 
-  each : Sections-read s y
-  each = request-sections s (table-in s) p y q read
+  few-fluents : y .table .fluents ≤ format .fluents
+  few-fluents = rw (sym table-is) (parts-there .few)
 
-  plan-slot-is : getD u plan-slot 0 ≡ plan-place Flags y
-  plan-slot-is = plan-noted-at s (table-in s) (parts-there .few) (parts-there .less) p y q read t g (here .sized)
+  each : Sections-read form s y
+  each = request-sections form s (table-in form s) p y q read
 
-  plan-is : plan-in s u ≡ y .plan
+  plan-slot-is : getD u plan-slot 0 ≡ plan-place form y
+  plan-slot-is = plan-noted-at form s (table-in form s) (parts-there .few) (parts-there .less) (parts-there .values) p y q read t g (here .sized)
+
+  plan-is : plan-in form s u ≡ y .plan
   unfolding plan-in plan-of
   plan-is = rw (table-is, plan-slot-is) (ap plan-of (each .plan))
 
   items-is : getD u items-slot 0 ≡ each .items
   unfolding plan-at
   items-is =
-      let noted = items-noted s (table-in s) (parts-there .few) (parts-there .less) p y q read t g (here .sized) in
-      let counted = sequence-read Flags (y .table .fluents) (y .table .actions) s 8 (plan-place Flags y) 0 (omega arith) .holds (record { value = y .plan; items = each .items }) (goals-place Flags y) (each .plan) .counted in
+      let noted = items-noted form s (table-in form s) (parts-there .few) (parts-there .less) (parts-there .values) p y q read t g (here .sized) in
+      let counted = sequence-read form (y .table .fluents) (y .table .actions) s 8 (plan-place form y) 0 (omega arith) .holds (record { value = y .plan; items = each .items }) (goals-place form y) (each .plan) .counted in
       omega arith
 
-  goals-at : goals-in u ≡ goals-place Flags y
+  goals-at : goals-in u ≡ goals-place form y
   unfolding goals-in
-  goals-at = goals-noted s (table-in s) (parts-there .few) (parts-there .less) p y q read t g (here .sized)
+  goals-at = goals-noted form s (table-in form s) (parts-there .few) (parts-there .less) (parts-there .values) p y q read t g (here .sized)
 
-  whether-at : whether-in s u ≡ y .whether-place
+  whether-at : whether-in form s u ≡ y .whether-place
   unfolding whether-in
-  whether-at = rw goals-at (sym (list-after literals (y .table .fluents) (format .listed) s (goals-place Flags y) (each .goals-list) (y .whether-place) (each .goals)))
+  whether-at = rw goals-at (sym (list-after form (y .table .fluents) (format .listed) s few-fluents (parts-there .values) (goals-place form y) (each .goals-list) (y .whether-place) (each .goals)))
 
-  goals-listed : listed s (goals-place Flags y) ≡ each .goals-list
-  goals-listed = list-here literals (y .table .fluents) s (format .listed) (goals-place Flags y) (each .goals-list) (y .whether-place) (each .goals) .0
+  goals-listed : listed-as form s (goals-place form y) ≡ each .goals-list
+  goals-listed = literals-read form (y .table .fluents) (format .listed) s few-fluents (parts-there .values) (goals-place form y) (each .goals-list) (y .whether-place) (each .goals) .is
 
   whether-listed : listed s (y .whether-place) ≡ each .whether-list
   whether-listed = list-here Reading.fluents (y .table .fluents) s (format .listed) (y .whether-place) (each .whether-list) (each .whether-end) (each .whether) .0
 
   -- THE REQUEST that is held has that table and what was read.
-  pub plan-request : request-in s (tail-with Flags g y t) ≡ y
+  pub plan-request : request-in form s (tail-with form g y t) ≡ y
   unfolding request-in
   plan-request = rw (table-is, plan-is, whether-at, goals-at, goals-listed, whether-listed, sym (each .goals-are), sym (each .whether-are)) refl
 
-  plan-held-there : Plan-held s u (y .plan)
-  plan-held-there = tail-held s (table-in s) (parts-there .few) (parts-there .less) p y q read t g (here .sized)
+  plan-held-there : Plan-held form s u (y .plan)
+  plan-held-there = tail-held form s (table-in form s) (parts-there .few) (parts-there .less) (parts-there .values) p y q read t g (here .sized)
 
   request-nexts : Nexts u (format .items) 0 (y .plan)
   unfolding tail-with places-noted
   request-nexts =
-      let planned : List ℕ = plan-noted Flags (plan-place Flags y) t (y .plan) in
+      let planned : List ℕ = plan-noted form (plan-place form y) t (y .plan) in
       let few = plan-held-there .few in
-      nexts-agree (y .plan) (format .items) 0 planned (tail-with Flags g y t)
+      nexts-agree (y .plan) (format .items) 0 planned (tail-with form g y t)
       (record {
         slot = λ j _ less.
-            kept (set (set (set planned plan-slot (plan-place Flags y)) items-slot (items-of (y .plan))) goals-slot (goals-place Flags y)) guards-slot (format .items + j) g (λ e. omega (arith, e, less, few))
-            ∙ kept (set (set planned plan-slot (plan-place Flags y)) items-slot (items-of (y .plan))) goals-slot (format .items + j) (goals-place Flags y) (λ e. omega (arith, e, less, few))
-            ∙ kept (set planned plan-slot (plan-place Flags y)) items-slot (format .items + j) (items-of (y .plan)) (λ e. omega (arith, e, less, few))
-            ∙ kept planned plan-slot (format .items + j) (plan-place Flags y) (λ e. omega (arith, e, less, few));
+            kept (set (set (set planned plan-slot (plan-place form y)) items-slot (items-of (y .plan))) goals-slot (goals-place form y)) guards-slot (format .items + j) g (λ e. omega (arith, e, less, few))
+            ∙ kept (set (set planned plan-slot (plan-place form y)) items-slot (items-of (y .plan))) goals-slot (format .items + j) (goals-place form y) (λ e. omega (arith, e, less, few))
+            ∙ kept (set planned plan-slot (plan-place form y)) items-slot (format .items + j) (items-of (y .plan)) (λ e. omega (arith, e, less, few))
+            ∙ kept planned plan-slot (format .items + j) (plan-place form y) (λ e. omega (arith, e, less, few));
       })
-      (plan-nexts (plan-place Flags y) t (y .plan) few (omega (arith, here .sized)))
+      (plan-nexts form (plan-place form y) t (y .plan) few (omega (arith, here .sized)))
 
-  stays : Table-here s u
+  stays : Table-here form s u
   stays = table-stays s t here g p y q read
 
   guards-slot-is : guards-at u ≡ g
   unfolding guards-at
-  guards-slot-is = guards-noted s (table-in s) (parts-there .few) (parts-there .less) p y q read t g (here .sized)
+  guards-slot-is = guards-noted form s (table-in form s) (parts-there .few) (parts-there .less) (parts-there .values) p y q read t g (here .sized)
 
   -- THE GUARDS that it holds.
-  plan-guards : guards-in s (tail-with Flags g y t) ≡ pick (eqb g 0) (λ _. []) (λ _. placed (g + 1) (listed s g))
+  plan-guards : guards-in s (tail-with form g y t) ≡ pick (eqb g 0) (λ _. []) (λ _. placed (g + 1) (listed s g))
   unfolding guards-in
   plan-guards = rw guards-slot-is refl
 
-  pub plan-at-hand : contradiction-in (table-in s) ≡ nowhere → (eqb g 0 ≡ false → List-here all-literals s g) → At-hand s (tail-with Flags g y t)
+  pub plan-at-hand : contradiction-as form s (table-in form s) ≡ nowhere → Guards-here form s g → At-hand form s (tail-with form g y t)
   unfolding run-places effect-places
   plan-at-hand passed guards =
       record {
@@ -216,8 +220,8 @@ module _ (s t : List ℕ) (here : Table-here s t) (g p : ℕ) (y : Request) (q :
         short = here .short;
         table-end = here .table-end;
         table = here .table;
-        effects = effects-ordered s (here .bytes) (table-in s) (here .table-end) parts-there u (stays .noted);
-        runs = runs-ordered s (here .bytes) (table-in s) (here .table-end) parts-there u (stays .noted);
+        effects = effects-ordered s (here .bytes) (table-in form s) (here .table-end) parts-there u (stays .noted);
+        runs = runs-ordered s (here .bytes) (table-in form s) (here .table-end) parts-there u (stays .noted);
         senses = senses-there s u stays;
         no-contradiction = passed;
         plan = rw (table-is, plan-is, plan-slot-is, goals-at, items-is) (each .plan);
@@ -229,29 +233,33 @@ module _ (s t : List ℕ) (here : Table-here s t) (g p : ℕ) (y : Request) (q :
         guards = rw guards-slot-is guards;
       }
 
+no-guards : (form : Form) (s : List ℕ) → Guards-here form s 0
+no-guards Flags s = λ some. clash (eq-eqb 0 0 refl) some
+no-guards Valued s = refl
+
 -- Without guards there are none.
-pub plan-unguarded : (s t : List ℕ) (here : Table-here s t) (p : ℕ) (y : Request) (q : ℕ) → request-at format Flags s (table-in s) p ≡ got y q → guards-in s (tail-noted Flags y t) ≡ []
-plan-unguarded s t here p y q read = plan-guards s t here 0 p y q read ∙ pick-true (eqb 0 0) _ _ (eq-eqb 0 0 refl)
+pub plan-unguarded : {form : Form} (s t : List ℕ) (here : Table-here form s t) (p : ℕ) (y : Request) (q : ℕ) → request-at format form s (table-in form s) p ≡ got y q → guards-in s (tail-noted form y t) ≡ []
+plan-unguarded {form} s t here p y q read = plan-guards s t here 0 p y q read ∙ pick-true (eqb 0 0) _ _ (eq-eqb 0 0 refl)
 
 -- A REQUEST that was read from the start, into notes that held nothing.
-module _ (s : List ℕ) (bytes : (i : ℕ) → getD s i 0 < 256) (t : List ℕ) (read : Read-here s t) where
+module _ {form : Form} (s : List ℕ) (bytes : (i : ℕ) → getD s i 0 < 256) (t : List ℕ) (read : Read-here form s t) where
   abbrev before : List ℕ
   before = table-noted (read .request .table) blank
 
-  pub read-at-hand : contradiction-in (read .request .table) ≡ nowhere → (eqb (read .guards) 0 ≡ false → List-here all-literals s (read .guards)) → At-hand s t
+  pub read-at-hand : contradiction-as form s (read .request .table) ≡ nowhere → Guards-here form s (read .guards) → At-hand form s t
   read-at-hand passed guards =
-      subst (At-hand s) (sym (read-noted s bytes t read))
-      (plan-at-hand s before (read-comes s bytes t read) (read .guards) (read-parts s bytes t read .place) (read .request) (read .end) (read-tail s bytes t read) (ap contradiction-in (read-same s bytes t read) ∙ passed) guards)
+      subst (At-hand form s) (sym (read-noted s bytes t read))
+      (plan-at-hand s before (read-comes s bytes t read) (read .guards) (read-parts s bytes t read .place) (read .request) (read .end) (read-tail s bytes t read) (ap (contradiction-as form s) (read-same s bytes t read) ∙ passed) guards)
 
-  pub request-read : request-in s t ≡ read .request
+  pub request-read : request-in form s t ≡ read .request
   request-read =
-      ap (request-in s) (read-noted s bytes t read)
+      ap (request-in form s) (read-noted s bytes t read)
       ∙ plan-request s before (read-comes s bytes t read) (read .guards) (read-parts s bytes t read .place) (read .request) (read .end) (read-tail s bytes t read)
 
   -- The table that it holds.
-  read-table : Table-here s t
+  read-table : Table-here form s t
   read-table =
-      subst (Table-here s) (sym (read-noted s bytes t read))
+      subst (Table-here form s) (sym (read-noted s bytes t read))
       (table-stays s before (read-comes s bytes t read) (read .guards) (read-parts s bytes t read .place) (read .request) (read .end) (read-tail s bytes t read))
 
   guards-read : guards-in s t ≡ pick (eqb (read .guards) 0) (λ _. []) (λ _. placed (read .guards + 1) (listed s (read .guards)))
@@ -260,18 +268,18 @@ module _ (s : List ℕ) (bytes : (i : ℕ) → getD s i 0 < 256) (t : List ℕ) 
       ∙ plan-guards s before (read-comes s bytes t read) (read .guards) (read-parts s bytes t read .place) (read .request) (read .end) (read-tail s bytes t read)
 
 -- Read WHOLE it has no guards,
-module _ (s : List ℕ) (bytes : (i : ℕ) → getD s i 0 < 256) (t : List ℕ) (x : Request) (e : ℕ) (reads : read-request format Flags s ≡ got x e) (noted : t ≡ request-noted Flags x blank) where
-  pub plain-at-hand : contradiction-in (x .table) ≡ nowhere → At-hand s t
-  plain-at-hand passed = read-at-hand s bytes t (plain-here s t x e reads noted) passed (λ some. clash (eq-eqb 0 0 refl) some)
+module _ (form : Form) (s : List ℕ) (bytes : (i : ℕ) → getD s i 0 < 256) (t : List ℕ) (x : Request) (e : ℕ) (reads : read-request format form s ≡ got x e) (noted : t ≡ request-noted form x blank) where
+  pub plain-at-hand : contradiction-as form s (x .table) ≡ nowhere → At-hand form s t
+  plain-at-hand passed = read-at-hand s bytes t (plain-here s t form x e reads noted) passed (no-guards form s)
 
-  pub plain-request : request-in s t ≡ x
-  plain-request = request-read s bytes t (plain-here s t x e reads noted)
+  pub plain-request : request-in form s t ≡ x
+  plain-request = request-read s bytes t (plain-here s t form x e reads noted)
 
-  pub plain-table : Table-here s t
-  plain-table = read-table s bytes t (plain-here s t x e reads noted)
+  pub plain-table : Table-here form s t
+  plain-table = read-table s bytes t (plain-here s t form x e reads noted)
 
   pub plain-guards : guards-in s t ≡ []
-  plain-guards = guards-read s bytes t (plain-here s t x e reads noted) ∙ pick-true (eqb 0 0) _ _ (eq-eqb 0 0 refl)
+  plain-guards = guards-read s bytes t (plain-here s t form x e reads noted) ∙ pick-true (eqb 0 0) _ _ (eq-eqb 0 0 refl)
 
 -- or those that were read with it.
 module _ (s : List ℕ) (bytes : (i : ℕ) → getD s i 0 < 256) (t : List ℕ) (g : Guarded-request) (e : ℕ) (reads : read-guarded format s ≡ got g e) (noted : t ≡ guarded-noted g blank) where
@@ -288,15 +296,15 @@ module _ (s : List ℕ) (bytes : (i : ℕ) → getD s i 0 < 256) (t : List ℕ) 
   few : g .request .table .fluents ≤ format .fluents
   few =
       let there = read-parts s bytes t (guarded-here s t g e reads noted) in
-      table-parts s (g .request .table) (there .place) (there .table-read) .few
+      table-parts Flags s (g .request .table) (there .place) (there .table-read) .few
 
-  pub guarded-at-hand : contradiction-in (g .request .table) ≡ nowhere → At-hand s t
+  pub guarded-at-hand : contradiction-in (g .request .table) ≡ nowhere → At-hand Flags s t
   guarded-at-hand passed = read-at-hand s bytes t (guarded-here s t g e reads noted) passed (λ _. guards-here .1 all-literals (omega (arith, few)))
 
-  pub guarded-request : request-in s t ≡ g .request
+  pub guarded-request : request-in Flags s t ≡ g .request
   guarded-request = request-read s bytes t (guarded-here s t g e reads noted)
 
-  pub guarded-table : Table-here s t
+  pub guarded-table : Table-here Flags s t
   guarded-table = read-table s bytes t (guarded-here s t g e reads noted)
 
   pub guarded-guards : guards-in s t ≡ g .guards

@@ -11,7 +11,8 @@ use Rattle.meaning.specs.Limits.{format}
 use Rattle.meaning.specs.Requests.{Sequence, done, item, Item, act, branching, Branches, none, branch}
 use Rattle.meaning.specs.Derivations.{join}
 use Rattle.meaning.proofs.TestLaws.{by-test, pick-true, pick-false}
-use Rattle.meaning.specs.declared.Form.the-variants.{Flags}
+use Rattle.meaning.specs.declared.Form.{Form}
+use Rattle.reading.specs.Listed as Listed
 use Rattle.reading.specs.Planned.{items-of, items-in, items-under, bytes-of, place-of, following}
 use Rattle.reading.specs.Noted.{item-next, plan-slot, items-slot, around-from}
 use Rattle.finding.specs.PlansHeld.{Written, Item-written, Branches-written, Kept, Item-kept, Branches-kept}
@@ -24,7 +25,7 @@ use Rattle.steps.proofs.HandLaws.{sections}
 use Rattle.steps.proofs.SmallActions.{plan-small}
 use Rattle.steps.proofs.RestLaws.{rest-first, rest-inner, rest-later, under-here, under-later, rest-start, rest-past}
 
-module _ (s t : List ℕ) (plan : Sequence ℕ) (most : items-of plan ≤ format .items) where
+module _ (form : Form) (s t : List ℕ) (plan : Sequence ℕ) (most : items-of plan ≤ format .items) where
   -- What is left of the plan from each item from lo up to hi.
   abbrev Left : (lo hi : ℕ) → (ℕ → Sequence ℕ) → Type 0
   Left lo hi f = (i : ℕ) → lo ≤ i → i < hi → rest-at plan i ≡ f i
@@ -92,9 +93,9 @@ module _ (s t : List ℕ) (plan : Sequence ℕ) (most : items-of plan ≤ format
       }
 
   -- WHAT STANDS INSIDE.
-  branches-laid : (bs : Branches ℕ) (met p : ℕ) (after : Sequence ℕ) → met + items-under bs ≤ items-of plan → Branches-kept t met p bs
+  branches-laid : (bs : Branches ℕ) (met p : ℕ) (after : Sequence ℕ) → met + items-under bs ≤ items-of plan → Branches-kept form t met p bs
       → Left met (met + items-under bs) (λ i. rest-under bs met i after)
-      → Branches-laid t plan met p after bs
+      → Branches-laid form t plan met p after bs
   unfolding Branches-laid Branches-kept items-under
   branches-laid none met p after room k left = tt
   branches-laid (branch c b bs) met p after room k left = (
@@ -103,19 +104,19 @@ module _ (s t : List ℕ) (plan : Sequence ℕ) (most : items-of plan ≤ format
       there = λ some. omega (arith, some, room);
       rest = λ some. left met (omega arith) (omega (arith, some)) ∙ under-here c b bs met after met (omega (arith, some)) ∙ rest-start b met after some;
     },
-    branches-laid bs (met + items-of b) (p + (1 + length c) + (2 + bytes-of Flags b)) after (omega (arith, room)) (k .2)
+    branches-laid bs (met + items-of b) (p + (1 + Listed.span form (length c)) + (2 + bytes-of form b)) after (omega (arith, room)) (k .2)
         (λ i from to. left i (omega (arith, from)) (omega (arith, to)) ∙ under-later c b bs met after i from),
   )
 
-  inside-laid : (x : Item ℕ) (met : ℕ) (after : Sequence ℕ) → met + items-in x ≤ items-of plan → Item-kept t met x → Small-item x
+  inside-laid : (x : Item ℕ) (met : ℕ) (after : Sequence ℕ) → met + items-in x ≤ items-of plan → Item-kept form t met x → Small-item x
       → Left (met + 1) (met + items-in x) (λ i. rest-within x (met + 1) i after)
-      → Inside-laid t plan met after x
+      → Inside-laid form t plan met after x
   unfolding Inside-laid Item-kept Small-item items-in rest-within
   inside-laid (act p a) met after room k small left = small
   inside-laid (branching p bs) met after room k small left =
       branches-laid bs (met + 1) (p + 2) after (omega (arith, room)) (k .1) (λ i from to. left i from (omega (arith, to)))
 
-  placed : (x : Item ℕ) (met : ℕ) → Item-kept t met x → getD t (0 + met) 0 ≡ place-of x
+  placed : (x : Item ℕ) (met : ℕ) → Item-kept form t met x → getD t (0 + met) 0 ≡ place-of x
   unfolding Item-kept place-of
   placed (act p a) met k = k
   placed (branching p bs) met k = k .0
@@ -125,16 +126,16 @@ module _ (s t : List ℕ) (plan : Sequence ℕ) (most : items-of plan ≤ format
     unfolding items-of items-in items-under Written Item-written Branches-written Kept Item-kept Branches-kept Nexts Inside-nexts Under-nexts Small Small-item Small-under rest-within
 
     laid-in : (b : Sequence ℕ) (up met : ℕ) (after : Sequence ℕ) → met + items-of b ≤ items-of plan
-        → Written s b → Kept t met b → Nexts t up met b → Small b
+        → Written form s b → Kept form t met b → Nexts t up met b → Small b
         → Around up met (met + items-of b) after
         → Left met (met + items-of b) (λ i. rest-in b met i after)
-        → (i : ℕ) → met ≤ i → i < met + items-of b → Item-laid s t plan i
+        → (i : ℕ) → met ≤ i → i < met + items-of b → Item-laid form s t plan i
     laid-in done up met after room w k n small r left i from to = absurd (omega (arith, from, to))
     laid-in (item x b) up met after room w k n small r left i from to =
         by-test (leb i met)
         (λ e.
         let here : met ≡ i = let below = leb-true i met e in omega (arith, below, from) in
-        subst (Item-laid s t plan) here (record {
+        subst (Item-laid form s t plan) here (record {
           this = x;
           after = join b after;
           rest = this;
@@ -161,10 +162,10 @@ module _ (s t : List ℕ) (plan : Sequence ℕ) (most : items-of plan ≤ format
         later j lo hi = left j (omega (arith, lo)) (omega (arith, hi)) ∙ rest-later x b met after j lo
 
     laid-within : (x : Item ℕ) (met : ℕ) (after : Sequence ℕ) → met + items-in x ≤ items-of plan
-        → Item-written s x → Item-kept t met x → Inside-nexts t met x → Small-item x
+        → Item-written form s x → Item-kept form t met x → Inside-nexts t met x → Small-item x
         → rest-at plan met ≡ item x after
         → Left (met + 1) (met + items-in x) (λ i. rest-within x (met + 1) i after)
-        → (i : ℕ) → met < i → i < met + items-in x → Item-laid s t plan i
+        → (i : ℕ) → met < i → i < met + items-in x → Item-laid form s t plan i
     laid-within (act p a) met after room w k n small this left i from to = absurd (omega (arith, from, to))
     laid-within (branching p bs) met after room w k n small this left i from to =
         laid-under bs (around-from + met) (met + 1) (p + 2) after (omega (arith, room)) (w .1) (k .1) n small
@@ -173,10 +174,10 @@ module _ (s t : List ℕ) (plan : Sequence ℕ) (most : items-of plan ≤ format
         i (omega (arith, from)) (omega (arith, to))
 
     laid-under : (bs : Branches ℕ) (up met p : ℕ) (after : Sequence ℕ) → met + items-under bs ≤ items-of plan
-        → Branches-written s p bs → Branches-kept t met p bs → Under-nexts t up met bs → Small-under bs
+        → Branches-written form s p bs → Branches-kept form t met p bs → Under-nexts t up met bs → Small-under bs
         → Around up met (met + items-under bs) after
         → Left met (met + items-under bs) (λ i. rest-under bs met i after)
-        → (i : ℕ) → met ≤ i → i < met + items-under bs → Item-laid s t plan i
+        → (i : ℕ) → met ≤ i → i < met + items-under bs → Item-laid form s t plan i
     laid-under none up met p after room w k n small r left i from to = absurd (omega (arith, from, to))
     laid-under (branch c b bs) up met p after room w k n small r left i from to =
         by-test (ltb i (met + items-of b))
@@ -184,13 +185,13 @@ module _ (s t : List ℕ) (plan : Sequence ℕ) (most : items-of plan ≤ format
         (around-part up met (met + (items-of b + items-under bs)) met (met + items-of b) after (omega arith) (omega arith) r)
         (λ j lo hi. left j lo (omega (arith, hi)) ∙ under-here c b bs met after j hi)
         i from (ltb-true i (met + items-of b) e))
-        (λ e. laid-under bs up (met + items-of b) (p + (1 + length c) + (2 + bytes-of Flags b)) after (omega (arith, room)) (w .2) (k .2) (n .1) (small .1)
+        (λ e. laid-under bs up (met + items-of b) (p + (1 + Listed.span form (length c)) + (2 + bytes-of form b)) after (omega (arith, room)) (w .2) (k .2) (n .1) (small .1)
         (around-part up met (met + (items-of b + items-under bs)) (met + items-of b) (met + items-of b + items-under bs) after (omega arith) (omega arith) r)
         (λ j lo hi. left j (omega (arith, lo)) (omega (arith, hi)) ∙ under-later c b bs met after j lo)
         i (ltb-false i (met + items-of b) e) (omega (arith, to)))
 
   -- The whole plan has nothing behind it.
-  plan-laid : Written s plan → Kept t 0 plan → Nexts t (format .items) 0 plan → Small plan → (i : ℕ) → i < items-of plan → Item-laid s t plan i
+  plan-laid : Written form s plan → Kept form t 0 plan → Nexts t (format .items) 0 plan → Small plan → (i : ℕ) → i < items-of plan → Item-laid form s t plan i
   unfolding rest-at onward
   plan-laid w k n small i less =
       laid-in plan (format .items) 0 done (omega arith) w k n small
@@ -204,8 +205,8 @@ module _ (s t : List ℕ) (plan : Sequence ℕ) (most : items-of plan ≤ format
       i (omega arith) (omega (arith, less))
 
 -- AT HAND.
-module _ (s t : List ℕ) (here : At-hand s t) where
-  pub item-laid : (i : ℕ) → i < items-of (plan-in s t) → Item-laid s t (plan-in s t) i
+module _ {form : Form} (s t : List ℕ) (here : At-hand form s t) where
+  pub item-laid : (i : ℕ) → i < items-of (plan-in form s t) → Item-laid form s t (plan-in form s t) i
   item-laid =
-      plan-laid s t (plan-in s t) (here .held .few) (here .held .written) (here .held .kept) (here .nexts)
-      (plan-small (table-in s .fluents) (table-in s .actions) s (sections s t here .less) (getD t plan-slot 0) (record { value = plan-in s t; items = getD t items-slot 0 }) (goals-in t) (here .plan))
+      plan-laid form s t (plan-in form s t) (here .held .few) (here .held .written) (here .held .kept) (here .nexts)
+      (plan-small form (table-in form s .fluents) (table-in form s .actions) s (sections s t here .less) (getD t plan-slot 0) (record { value = plan-in form s t; items = getD t items-slot 0 }) (goals-in t) (here .plan))

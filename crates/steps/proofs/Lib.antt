@@ -14,7 +14,9 @@ pub mod MissLaws
 pub mod OnwardLaws
 pub mod FirstLaws
 pub mod Sweeps
+pub mod UnknownFirst
 pub mod LookLaws
+pub mod LookAs
 pub mod WideLaws
 pub mod ActionLaws
 pub mod AfterLaws
@@ -22,6 +24,7 @@ pub mod FlagLaws
 pub mod OpenedLaws
 pub mod CaseLaws
 pub mod TriedLaws
+pub mod FormSteps
 pub mod ModeLaws
 pub mod HeldEnds
 pub mod SameHand

@@ -28,6 +28,7 @@ use Rattle.steps.specs.Held.{table-in}
 use Rattle.steps.specs.AtHand.{At-hand, Marked}
 use Rattle.steps.specs.LinesFound.{Senses}
 use Rattle.steps.specs.Steps.{unknown-above, first-of}
+use Rattle.steps.proofs.UnknownFirst
 
 -- MARKED STATES stay marked.
 pub marked-set : (marks : State) (f m : ℕ) → Marked marks → f < format .fluents → m ≤ 2 → Marked (set marks f m)
@@ -70,13 +71,6 @@ told-false f marks = rw (fluent-false f, mark-false f)
 
 -- THE UNKNOWN SENSED FLUENTS, of lines and a state, as many as the last list has entries.
 module _ (ks : List Knowledge) where
-  unknown-none-sensed : (marks : State) (f : ℕ) (ms : List ℕ) → ((g : ℕ) → f ≤ g → senses ks g ≡ false) → unknown-from ks marks f ms ≡ []
-  unfolding unknown-from both
-  unknown-none-sensed marks f [] none = refl
-  unknown-none-sensed marks f (m ∷ ms) none =
-      pick-false _ _ _ (ap (λ (b : Bool). both b (fails (known-whether marks f))) (none f (omega arith)))
-      ∙ unknown-none-sensed marks (f + 1) ms (λ g h. none g (omega arith))
-
   unknown-alike : (marks other : State) (f : ℕ) (ms : List ℕ) → ((g : ℕ) → f ≤ g → known-whether marks g ≡ known-whether other g) → unknown-from ks marks f ms ≡ unknown-from ks other f ms
   unfolding unknown-from
   unknown-alike marks other f [] alike = refl
@@ -117,73 +111,25 @@ module _ (t : Table) (a : ℕ) (marks : State) (marked : Marked marks) where
   abbrev reads : ℕ → Bool
   reads f = both (senses (knowledge-of t a) f) (fails (known-whether marks f))
 
-  unknown-step : (f : ℕ) → f < format .fluents → unknown-above t a marks f ≡ pick (reads f) (λ _. f ∷ unknown-above t a marks (f + 1)) (λ _. unknown-above t a marks (f + 1))
+  pub unknown-step : (f : ℕ) → f < format .fluents → unknown-above t a marks f ≡ pick (reads f) (λ _. f ∷ unknown-above t a marks (f + 1)) (λ _. unknown-above t a marks (f + 1))
   unfolding unknown-above unknown-from
   unknown-step f near =
       let up : suc f ≡ f + 1 = omega arith in
       ap (unknown-from (knowledge-of t a) marks f) (drop-cons marks f 0 (rw (marked .sized) near) ∙ ap (λ (k : ℕ). getD marks f 0 ∷ drop k marks) up)
 
-  unknown-far : (f : ℕ) → format .fluents ≤ f → unknown-above t a marks f ≡ []
+  pub unknown-far : (f : ℕ) → format .fluents ≤ f → unknown-above t a marks f ≡ []
   unfolding unknown-above unknown-from
   unknown-far f far = ap (unknown-from (knowledge-of t a) marks f) (drop-of-length-le marks {i = f} (rw (marked .sized) far))
 
-  module _ (f : ℕ) (near : f < format .fluents) where
-    unknown-here : senses (knowledge-of t a) f ≡ true → getD marks f 0 ≡ 0 → unknown-above t a marks f ≡ f ∷ unknown-above t a marks (f + 1)
-    unknown-here sensed none = unknown-step f near ∙ pick-true _ _ _ (both-true _ _ sensed (fails-false _ (unmarked-unknown marks f none)))
-
-    unknown-unsensed : senses (knowledge-of t a) f ≡ false → unknown-above t a marks f ≡ unknown-above t a marks (f + 1)
-    unfolding both
-    unknown-unsensed none = unknown-step f near ∙ pick-false _ _ _ (ap (λ (b : Bool). both b (fails (known-whether marks f))) none)
-
-    unknown-marked : (getD marks f 0 ≡ 0 → ⊥) → unknown-above t a marks f ≡ unknown-above t a marks (f + 1)
-    unknown-marked some = unknown-step f near ∙ pick-false _ _ _ (by-test (reads f) (λ e. clash (marked-known marks f marked some) (fails-true _ (both-right _ _ e))) (λ e. e))
-
-  unknown-skipped : (n : ℕ) → n ≤ format .fluents → ((g : ℕ) → g < n → senses (knowledge-of t a) g ≡ false) → unknown-above t a marks 0 ≡ unknown-above t a marks n
-  unknown-skipped zero most none = refl
-  unknown-skipped (suc n) most none =
-      let up : n + 1 ≡ suc n = omega arith in
-      unknown-skipped n (omega arith) (λ g h. none g (omega arith)) ∙ unknown-unsensed n (omega arith) (none n (omega arith)) ∙ ap (unknown-above t a marks) up
-
-  -- The first of them from f up, where there is one.
-  record Read-first (f : ℕ) : Type 0 where
-    fluent : ℕ
-    is : unknown-above t a marks f ≡ fluent ∷ unknown-above t a marks (fluent + 1)
-    above : f ≤ fluent
-    below : fluent < format .fluents
-
-  unknown-cases : (n f : ℕ) → format .fluents ≤ f + n → (unknown-above t a marks f ≡ []) ⊎ Read-first f
-  unknown-cases zero f far = inl (unknown-far f (omega arith))
-  unknown-cases (suc n) f far =
-      elim (decLt f (format .fluents)) [
-        | yes near ↦ by-test (reads f)
-            (λ e. inr (record { fluent = f; is = unknown-step f near ∙ pick-true _ _ _ e; above = omega arith; below = near }))
-            (λ e.
-            let same = unknown-step f near ∙ pick-false _ _ _ e in
-            ⊎-elim (λ none. inl (same ∙ none))
-            (λ (r : Read-first (f + 1)). inr (record { fluent = r .fluent; is = same ∙ r .is; above = let above = r .above in omega arith; below = r .below }))
-            (unknown-cases n (f + 1) (omega arith)))
-        | no h ↦ inl (unknown-far f (omega arith))
-      ]
-
   module _ (f g : ℕ) (first : g ≡ first-of (unknown-above t a marks f)) where
-    read-first : g < format .fluents → Read-first f
-    unfolding first-of
-    read-first near = ⊎-elim (λ none. let far : g ≡ format .fluents = first ∙ ap first-of none in absurd (omega arith)) (λ r. r) (unknown-cases (format .fluents) f (omega arith))
-
-    first-is : (near : g < format .fluents) → read-first near .fluent ≡ g
-    unfolding first-of
-    first-is near = sym (first ∙ ap first-of (read-first near .is))
-
     pub unknown-first : g < format .fluents → unknown-above t a marks f ≡ g ∷ unknown-above t a marks (g + 1)
-    unknown-first near = read-first near .is ∙ ap (λ (h : ℕ). h ∷ unknown-above t a marks (h + 1)) (first-is near)
+    unknown-first = UnknownFirst.unknown-first (unknown-above t a marks) reads unknown-step unknown-far f g first
 
     pub unknown-first-above : g < format .fluents → f ≤ g
-    unknown-first-above near = let above = read-first near .above in let e = first-is near in omega arith
+    unknown-first-above = UnknownFirst.unknown-first-above (unknown-above t a marks) reads unknown-step unknown-far f g first
 
     pub unknown-no-first : format .fluents ≤ g → unknown-above t a marks f ≡ []
-    unfolding first-of
-    unknown-no-first far =
-        ⊎-elim (λ none. none) (λ (r : Read-first f). let below = r .below in let e = first ∙ ap first-of (r .is) in absurd (omega arith)) (unknown-cases (format .fluents) f (omega arith))
+    unknown-no-first = UnknownFirst.unknown-no-first (unknown-above t a marks) reads unknown-step unknown-far f g first
 
   module _ (g : ℕ) (first : g ≡ first-of (unknown-sensed t a marks)) where
     from-none : g ≡ first-of (unknown-above t a marks 0)
@@ -194,48 +140,3 @@ module _ (t : Table) (a : ℕ) (marks : State) (marked : Marked marks) where
 
     pub sensed-no-first : format .fluents ≤ g → unknown-sensed t a marks ≡ []
     sensed-no-first far = unknown-all t a marks ∙ unknown-no-first 0 g from-none far
-
--- THE TABLE of what an action senses.
-module _ (s t : List ℕ) (a : ℕ) (here : At-hand s t) (small : a < format .actions) where
-  abbrev served : Senses s t a
-  served = here .senses a small
-
-  pub sensing-is : (end : ℕ) → end ≡ getD t (sensed-to + a) 0 → ltb 0 end ≡ sensing (table-in s) a
-  sensing-is end at = ap (ltb 0) at ∙ served .any
-
-  pub looks-is : (f : ℕ) (there : Bool) → f < format .fluents → there ≡ pair-there t a f → there ≡ senses (knowledge-of (table-in s) a) f
-  looks-is f there near at = at ∙ served .pair f near
-
-  module _ (end f : ℕ) (at : end ≡ getD t (sensed-to + a) 0) (more : f < end) where
-    pub fluent-near : f < format .fluents
-    fluent-near = let last = served .last in omega arith
-
-    pub fluent-next-fits : Fits w64 (f + 1)
-    fluent-next-fits = let near = fluent-near in record { fits = omega arith }
-
-    module _ (marks : State) (marked : Marked marks) (whole : ℕ) (so-far : whole ≡ first-of (unknown-above (table-in s) a marks f)) where
-      pub look-marked : (getD marks f 0 ≡ 0 → ⊥) → whole ≡ first-of (unknown-above (table-in s) a marks (f + 1))
-      look-marked some = so-far ∙ ap first-of (unknown-marked (table-in s) a marks marked f fluent-near some)
-
-      module _ (there : Bool) (read : there ≡ pair-there t a f) where
-        pub look-found : getD marks f 0 ≡ 0 → there ≡ true → f ≡ whole
-        unfolding first-of
-        look-found none some = sym (so-far ∙ ap first-of (unknown-here (table-in s) a marks marked f fluent-near (sym (looks-is f there fluent-near read) ∙ some) none))
-
-        pub look-unsensed : there ≡ false → whole ≡ first-of (unknown-above (table-in s) a marks (f + 1))
-        look-unsensed none = so-far ∙ ap first-of (unknown-unsensed (table-in s) a marks marked f fluent-near (sym (looks-is f there fluent-near read) ∙ none))
-
-  module _ (end f : ℕ) (at : end ≡ getD t (sensed-to + a) 0) (done : end ≤ f) where
-    pub look-done : (marks : State) (whole : ℕ) → whole ≡ first-of (unknown-above (table-in s) a marks f) → format .fluents ≡ whole
-    unfolding first-of unknown-above
-    look-done marks whole so-far =
-        sym (so-far ∙ ap first-of (unknown-none-sensed (knowledge-of (table-in s) a) marks f (drop f marks) (λ g h. by-test _ (λ e. let less = served .to g e in absurd (omega arith)) (λ e. e))))
-
-  module _ (back : ℕ) (at : back ≡ getD t (sensed-from + a) 0) where
-    pub back-within : back ≤ format .fluents
-    back-within = let most = served .most in omega arith
-
-    pub first-from : (marks : State) (r : ℕ) → Marked marks → r ≡ first-of (unknown-above (table-in s) a marks (format .fluents - back)) → r ≡ first-of (unknown-sensed (table-in s) a marks)
-    first-from marks r marked is =
-        is ∙ ap first-of (sym (unknown-all (table-in s) a marks ∙ unknown-skipped (table-in s) a marks marked (format .fluents - back) (omega arith)
-        (λ g h. by-test _ (λ e. let from = served .from g e in absurd (omega arith)) (λ e. e))))

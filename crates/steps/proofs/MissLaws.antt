@@ -1,39 +1,43 @@
 -- What an end state misses: one entry, a list of entries one after another, the goals and then the whether entries. Assumes nothing.
-use Prim.Native.Nat.{ℕ, _+_, _-_, _≤_, _<_}
+use Prim.Native.Nat.{ℕ, _+_, _-_, _*_, _≤_, _<_}
 use native.Mathlib.Omega.{arith}
-use mathlib.Core.Path.{_≡_, refl, sym, _∙_, ap, subst}
+use mathlib.Core.Path.{_≡_, refl, sym, _∙_, ap, subst, fun-ext}
 use mathlib.Core.Bool.{Bool, true, false}
 use mathlib.Core.List.{List}
 use lib.ListN.{length, getD}
 use lib.Dec.{eqb, ltb}
 use mir.Syntax.{w64}
 use mir.Val.{Fits}
-use borrow.Author.Tests.{lt-ltb, le-ltb, eqb-true, eqb-false, eq-eqb, ne-eqb}
-use Rattle.meaning.specs.Tests.{either, pick}
+use borrow.Author.Tests.{eq-eqb, ne-eqb}
+use Rattle.meaning.specs.Tests.{pick}
+use Rattle.meaning.specs.declared.Form.{Form}
+use Rattle.meaning.specs.declared.Form.the-variants.{Flags, Valued}
 use Rattle.meaning.specs.Limits.{format, all-literals}
 use Rattle.meaning.specs.Requests.{Entry}
 use Rattle.meaning.specs.Refusals
 use Rattle.meaning.specs.Refusals.{or-else}
-use Rattle.meaning.specs.Reading.{placed}
-use Rattle.meaning.specs.States.{State, known, known-whether}
+use Rattle.meaning.specs.Reading.{placed, placed-twos, placed-as, literals-in}
+use Rattle.meaning.specs.States.{State, known}
+use Rattle.meaning.specs.ValueStates as Value
 use Rattle.meaning.specs.Walk.{first-missed, missed-in}
-use Rattle.meaning.proofs.TestLaws.{by-test, pick-true, pick-false}
-use Rattle.meaning.proofs.StateLaws.{known-true, known-false}
+use Rattle.meaning.proofs.TestLaws.{pick-true, pick-false}
 use Rattle.reading.specs.declared.marks.Test.the-variants.{Known}
 use Rattle.finding.specs.declared.places.Found as Code
 use Rattle.finding.specs.declared.places.Found.the-variants.{Nowhere, At}
 use Rattle.finding.specs.Places.{found}
 use Rattle.finding.specs.Branches.{sequence-place}
-use Rattle.reading.specs.Listed.{bytes-from, listed, List-here, holds-as}
+use Rattle.reading.specs.Listed.{bytes-from, twos-from, listed, List-here, Values-here, listed-as, Literals-here, holds-as}
 use Rattle.reading.proofs.MarkLaws.{bytes-next, bytes-done}
 use Rattle.reading.specs.Noted.{goals-slot, guards-slot}
+use Rattle.valuing.proofs.TwosLaws.{Twos-left, twos-start, twos-on, twos-next, twos-over, twos-whole}
 use Rattle.finding.proofs.FoundLaws.{found-none, found-at}
 use Rattle.steps.specs.declared.goals.Asked.{Asked}
 use Rattle.steps.specs.declared.goals.Asked.the-variants.{Goal, Whether}
-use Rattle.steps.specs.Held.{goals-in, whether-in, guards-at, guards-in, request-in}
-use Rattle.steps.specs.AtHand.{At-hand, Marked}
-use Rattle.steps.specs.Steps.{bound-as, met-as}
-use Rattle.steps.proofs.HandLaws.{goals-here, whether-here}
+use Rattle.steps.specs.Held.{goals-in, guards-at, guards-in, request-in}
+use Rattle.steps.specs.AtHand.{At-hand, Marked-as}
+use Rattle.steps.specs.Steps.{bound-as, has-mark, met-as, knows-as, lacks-as, missed-as}
+use Rattle.steps.proofs.HandLaws.{goals-here, is-whether, whether-here}
+use Rattle.steps.proofs.LookAs.{whether-as, marked-whether}
 
 -- ONE ENTRY.
 module _ (asked : Asked) (x : ℕ) (below : x < bound-as asked) where
@@ -50,20 +54,9 @@ module _ (asked : Asked) (marks : State) (x : ℕ) where
   unfolding met-as holds-as
   goal-met r e is = rw e is
 
-  -- A mark is 0, 1 or 2.
-  above-zero : (m : ℕ) → m ≤ 2 → ltb 0 m ≡ either (eqb m 1) (eqb m 2)
-  unfolding either
-  above-zero m most =
-      by-test (eqb m 1)
-      (λ t. let one = eqb-true m 1 t in rw t (lt-ltb 0 m (omega arith)))
-      (λ f. rw f (
-      by-test (eqb m 2)
-      (λ t. let two = eqb-true m 2 t in rw t (lt-ltb 0 m (omega arith)))
-      (λ g. let other = eqb-false m 1 f in let another = eqb-false m 2 g in rw g (le-ltb 0 m (omega (arith, most, other, another))))))
-
-  pub whether-met : asked ≡ Whether → Marked marks → ltb 0 (getD marks x 0) ≡ met-as asked marks x
-  unfolding met-as known-whether
-  whether-met e marked = rw e (above-zero (getD marks x 0) (marked .small x) ∙ rw (known-true marks x, known-false marks x))
+  pub whether-met : asked ≡ Whether → ltb 0 (getD marks x 0) ≡ met-as asked marks x
+  unfolding met-as has-mark
+  whether-met e = rw e
 
 -- From the entry behind i on, the list at p misses what the whole does.
 abbrev pub Missed-ahead : (test : ℕ → Bool) (s : List ℕ) (p end : ℕ) (whole : Code.Found) (i : ℕ) → Type 0
@@ -116,67 +109,105 @@ module _ (test : ℕ → Bool) (s : List ℕ) (p end : ℕ) (whole : Code.Found)
   missed-done h = sym (so-far .1 ∙ rw (bytes-done s end i h))
 
 -- THE GOALS, and then the whether entries.
-module _ (s t : List ℕ) (here : At-hand s t) (goals : ℕ) (is : goals ≡ getD t goals-slot 0) where
-  pub goals-there : List-here (bound-as Goal) s goals
-  unfolding bound-as
+pub missed-parts : (form : Form) (s t : List ℕ) (marks : State) → missed-as form s t marks ≡ or-else (first-missed (knows-as form s marks) (request-in form s t .goals)) (λ _. first-missed (whether-as form s marks) (request-in form s t .whether))
+unfolding missed-in Value.missed-in
+missed-parts Flags s t marks = refl
+missed-parts Valued s t marks = refl
+
+module _ {form : Form} (s t : List ℕ) (here : At-hand form s t) (goals : ℕ) (is : goals ≡ getD t goals-slot 0) where
+  pub goals-there : Literals-here form s goals
   goals-there = goals-here s t here goals is
 
-  goals-are : placed (goals + 1) (listed s goals) ≡ request-in s t .goals
-  unfolding request-in goals-in
-  goals-are = rw is
+  module _ (marks : State) (marked : Marked-as form s marks) (r : Code.Found) (looked : r ≡ found (first-missed (knows-as form s marks) (placed-as form (goals + 1) (listed-as form s goals)))) where
+    goals-looked : r ≡ found (first-missed (knows-as form s marks) (request-in form s t .goals))
+    unfolding request-in goals-in
+    goals-looked = looked ∙ rw is
 
-  pub goals-inside : goals < length s
-  goals-inside = let ends = goals-there .ends in omega arith
-
-  pub after-fits : Fits w64 (length s) → Fits w64 (goals + 1)
-  after-fits room = let there = goals-inside in let most = room .fits in record { fits = omega arith }
-
-  module _ (x : ℕ) (byte : x ≡ getD s goals 0) where
-    pub whether-fits : Fits w64 (length s) → Fits w64 (goals + 1 + x)
-    whether-fits room = let ends = goals-there .ends in let most = room .fits in record { fits = omega arith }
-
-    whether-is : placed (goals + 1 + x + 1) (listed s (goals + 1 + x)) ≡ request-in s t .whether
-    unfolding request-in goals-in whether-in
-    whether-is = rw (byte, is)
-
-    pub whether-there : List-here (bound-as Whether) s (goals + 1 + x)
-    unfolding bound-as sequence-place
-    whether-there = whether-here s t here goals is (goals + 1 + x) (ap (λ (y : ℕ). goals + 1 + y) byte)
-
-  module _ (marks : State) (r : Code.Found) (looked : r ≡ found (first-missed (met-as Goal marks) (placed (goals + 1) (listed s goals)))) where
-    goals-looked : r ≡ found (first-missed (known marks) (request-in s t .goals))
-    unfolding met-as
-    goals-looked = looked ∙ ap (λ (es : List Entry). found (first-missed (known marks) es)) goals-are
-
-    pub goal-missed : (p : ℕ) → r ≡ At p → At p ≡ found (missed-in (request-in s t) marks)
-    unfolding missed-in or-else found
+    pub goal-missed : (p : ℕ) → r ≡ At p → At p ≡ found (missed-as form s t marks)
+    unfolding or-else found
     goal-missed p e =
-        let is : first-missed (known marks) (request-in s t .goals) ≡ Refusals.at p = found-at _ r goals-looked p e in
-        rw is
+        let is : first-missed (knows-as form s marks) (request-in form s t .goals) ≡ Refusals.at p = found-at _ r goals-looked p e in
+        rw (missed-parts form s t marks, is)
 
-    pub whether-missed : r ≡ Nowhere → (x : ℕ) → x ≡ getD s goals 0 → (q : Code.Found) → q ≡ found (first-missed (met-as Whether marks) (placed (goals + 1 + x + 1) (listed s (goals + 1 + x)))) → q ≡ found (missed-in (request-in s t) marks)
-    unfolding missed-in or-else met-as
-    whether-missed e x byte q asked =
-        let is : first-missed (known marks) (request-in s t .goals) ≡ Refusals.nowhere = found-none _ r goals-looked e in
-        asked
-        ∙ ap (λ (es : List Entry). found (first-missed (known-whether marks) es)) (whether-is x byte)
-        ∙ rw is
+    module _ (none : r ≡ Nowhere) (whether : ℕ) (after : whether ≡ sequence-place form s goals) where
+      pub whether-there : List-here (bound-as Whether) s whether
+      unfolding bound-as
+      whether-there = whether-here s t here goals is whether after
+
+      whether-is : placed (whether + 1) (listed s whether) ≡ request-in form s t .whether
+      unfolding request-in
+      whether-is = ap (λ (p : ℕ). placed (p + 1) (listed s p)) (is-whether s t here goals is whether after)
+
+      pub whether-missed : (q : Code.Found) → q ≡ found (first-missed (met-as Whether marks) (placed (whether + 1) (listed s whether))) → q ≡ found (missed-as form s t marks)
+      unfolding or-else met-as
+      whether-missed q asked =
+          let no-goal : first-missed (knows-as form s marks) (request-in form s t .goals) ≡ Refusals.nowhere = found-none _ r goals-looked none in
+          asked
+          ∙ ap (λ (es : List Entry). found (first-missed (has-mark marks) es)) whether-is
+          ∙ ap (λ (test : ℕ → Bool). found (first-missed test (request-in form s t .whether))) (fun-ext (marked-whether form s marks marked))
+          ∙ rw (missed-parts form s t marks, no-goal)
 
 -- THE GUARDS, where the notes have a place of them.
-module _ (s t : List ℕ) (here : At-hand s t) (guards : ℕ) (is : guards ≡ getD t guards-slot 0) where
-  slot-is : guards-at t ≡ guards
-  unfolding guards-at
-  slot-is = sym is
+flags-lacked : (s t : List ℕ) (marks : State) → guards-at t ≡ 0 → Nowhere ≡ found (first-missed (known marks) (guards-in s t))
+unfolding guards-in first-missed found
+flags-lacked s t marks none = rw none (ap (λ (es : List Entry). found (first-missed (known marks) es)) (sym (pick-true (eqb 0 0) _ _ (eq-eqb 0 0 refl))))
 
-  pub none-lacked : (marks : State) → guards ≡ 0 → Nowhere ≡ found (first-missed (known marks) (guards-in s t))
-  unfolding guards-in first-missed found
-  none-lacked marks none = rw (slot-is, none) (ap (λ (es : List Entry). found (first-missed (known marks) es)) (sym (pick-true (eqb 0 0) _ _ (eq-eqb 0 0 refl))))
+pub none-lacked : (form : Form) (s t : List ℕ) (guards : ℕ) → guards ≡ getD t guards-slot 0 → (marks : State) → guards ≡ 0 → Nowhere ≡ found (lacks-as form s t marks)
+unfolding guards-at found
+none-lacked Flags s t guards is marks none = flags-lacked s t marks (sym is ∙ none)
+none-lacked Valued s t guards is marks none = refl
 
-  module _ (some : guards ≡ 0 → ⊥) where
-    pub guards-there : List-here (bound-as Goal) s guards
-    unfolding bound-as
-    guards-there = subst (List-here all-literals s) slot-is (here .guards (rw slot-is (ne-eqb guards 0 some)))
+pub guards-there : (form : Form) (s t : List ℕ) → At-hand form s t → (guards : ℕ) → guards ≡ getD t guards-slot 0 → (guards ≡ 0 → ⊥) → List-here (bound-as Goal) s guards
+unfolding bound-as guards-at
+guards-there Flags s t here guards is some = subst (List-here all-literals s) (sym is) (here .guards (ne-eqb (getD t guards-slot 0) 0 (λ e. some (is ∙ e))))
+guards-there Valued s t here guards is some = absurd (some (is ∙ here .guards))
 
-    pub first-lacked : (marks : State) (r : Code.Found) → r ≡ found (first-missed (met-as Goal marks) (placed (guards + 1) (listed s guards))) → r ≡ found (first-missed (known marks) (guards-in s t))
-    unfolding guards-in met-as
-    first-lacked marks r looked = looked ∙ rw slot-is (ap (λ (es : List Entry). found (first-missed (known marks) es)) (sym (pick-false _ _ _ (ne-eqb guards 0 some))))
+pub first-lacked : (form : Form) (s t : List ℕ) → At-hand form s t → (guards : ℕ) → guards ≡ getD t guards-slot 0 → (guards ≡ 0 → ⊥) → (marks : State) (r : Code.Found)
+    → r ≡ found (first-missed (met-as Goal marks) (placed (guards + 1) (listed s guards))) → r ≡ found (lacks-as form s t marks)
+unfolding guards-in guards-at met-as
+first-lacked Flags s t here guards is some marks r looked =
+    looked ∙ rw is (ap (λ (es : List Entry). found (first-missed (known marks) es)) (sym (pick-false _ _ _ (ne-eqb (getD t guards-slot 0) 0 (λ e. some (is ∙ e))))))
+first-lacked Valued s t here guards is some marks r looked = absurd (some (is ∙ here .guards))
+
+-- A GOAL of either form.
+pub flags-missed : (form : Form) (s : List ℕ) (marks : State) (p : ℕ) (r : Code.Found) → form ≡ Flags → r ≡ found (first-missed (met-as Goal marks) (placed (p + 1) (listed s p)))
+    → r ≡ found (first-missed (knows-as form s marks) (placed-as form (p + 1) (listed-as form s p)))
+unfolding met-as
+flags-missed form s marks p r is e = rw is e
+
+pub values-missed : (form : Form) (s : List ℕ) (marks : State) (p : ℕ) (r : Code.Found) → form ≡ Valued → r ≡ found (first-missed (Value.known (literals-in s) marks) (placed-twos (p + 1) (listed-as Valued s p)))
+    → r ≡ found (first-missed (knows-as form s marks) (placed-as form (p + 1) (listed-as form s p)))
+values-missed form s marks p r is e = rw is e
+
+pub flags-goals : (form : Form) (s : List ℕ) (p : ℕ) → form ≡ Flags → Literals-here form s p → List-here (bound-as Goal) s p
+unfolding bound-as
+flags-goals form s p is here = subst (λ (f : Form). Literals-here f s p) is here
+
+-- LITERALS OF VALUES, one behind another: from place `at` on, the list at p misses what the whole does.
+pub record Values-ahead (test : ℕ → Bool) (s : List ℕ) (p at left : ℕ) : Type 0 where
+  pub place : Twos-left s p at left
+  pub is : first-missed test (placed-twos (p + 1) (twos-from s (p + 1) (getD s p 0))) ≡ first-missed test (placed-twos at (twos-from s at left))
+
+module _ (test : ℕ → Bool) (s : List ℕ) (p : ℕ) where
+  pub values-start : (count : ℕ) → count ≡ getD s p 0 → Values-ahead test s p (p + 1) count
+  values-start count e = record { place = twos-start s p count e; is = ap (λ (ls : List ℕ). first-missed test (placed-twos (p + 1) ls)) (sym (twos-whole s p count e)) }
+
+  module _ (at left : ℕ) (so : Values-ahead test s p at left) where
+    pub values-place : Twos-left s p at left
+    values-place = so .place
+
+    pub values-over : left ≤ 0 → Nowhere ≡ found (first-missed test (placed-twos (p + 1) (twos-from s (p + 1) (getD s p 0))))
+    unfolding first-missed placed-twos found
+    values-over h = sym (ap found (so .is) ∙ rw (twos-over s at left h))
+
+    module _ (more : 0 < left) (l : ℕ) (is : l ≡ getD s at 0 * 256 + getD s (at + 1) 0) (good : Bool) (tested : good ≡ test l) where
+      turned : first-missed test (placed-twos at (twos-from s at left)) ≡ pick good (λ _. first-missed test (placed-twos (at + 2) (twos-from s (at + 2) (left - 1)))) (λ _. Refusals.at at)
+      unfolding first-missed placed-twos
+      turned = rw (twos-next s at left l more is, tested)
+
+      pub values-on : good ≡ true → Values-ahead test s p (at + 2) (left - 1)
+      values-on t = record { place = twos-on s p at left (so .place) more; is = so .is ∙ turned ∙ pick-true _ _ _ t }
+
+      pub values-here : good ≡ false → At at ≡ found (first-missed test (placed-twos (p + 1) (twos-from s (p + 1) (getD s p 0))))
+      unfolding found
+      values-here f = sym (ap found (so .is ∙ turned ∙ pick-false _ _ _ f))

@@ -16,14 +16,15 @@ use Rattle.steps.specs.LinesFound.{run-places, effect-places}
 use Rattle.steps.specs.AtHand.{At-hand}
 use Rattle.steps.specs.Steps.{mode-in}
 use Rattle.steps.proofs.SameHand.{Other, request-same, guards-same, hand-same}
+use Rattle.meaning.specs.declared.Form.{Form}
 
 -- NOTES that hold a table.
-pub table-mode : (s t : List ℕ) → Table-here s t → mode-in t ≡ 0
+pub table-mode : {form : Form} (s t : List ℕ) → Table-here form s t → mode-in t ≡ 0
 unfolding mode-in
-table-mode s t here = mode-empty s (here .bytes) (table-in s) (here .table-end) (whole-table s t here) t (here .noted)
+table-mode {form} s t here = mode-empty s (here .bytes) (table-in form s) (here .table-end) (whole-table s t here) t (here .noted)
 
 -- ANOTHER MODE.
-module _ (s t : List ℕ) (m : ℕ) where
+module _ (form : Form) (s t : List ℕ) (m : ℕ) where
   abbrev u : List ℕ
   u = set t mode-slot m
 
@@ -34,14 +35,14 @@ module _ (s t : List ℕ) (m : ℕ) where
   unfolding mode-in
   new-mode sized = getD-set-same t mode-slot m 0 (omega (arith, sized))
 
-  pub same-request : request-in s (set t mode-slot m) ≡ request-in s t
-  same-request = request-same s t u other
+  pub same-request : request-in form s (set t mode-slot m) ≡ request-in form s t
+  same-request = request-same form s t u other
 
   pub same-guarded : guards-in s (set t mode-slot m) ≡ guards-in s t
-  same-guarded = guards-same s t u other
+  same-guarded = guards-same form s t u other
 
-  pub hand-stays : At-hand s t → At-hand s (set t mode-slot m)
+  pub hand-stays : At-hand form s t → At-hand form s (set t mode-slot m)
   hand-stays here =
-      hand-same s t u other here
-      (λ a small. order-same effect-lines t u (λ i less. kept t mode-slot (effect-lines + i) m (λ e. omega arith)) a (effect-places s a) small (here .effects a small))
-      (λ a small. order-same run-lines t u (λ i less. kept t mode-slot (run-lines + i) m (λ e. omega arith)) a (run-places s a) small (here .runs a small))
+      hand-same form s t u other here
+      (λ a small. order-same effect-lines t u (λ i less. kept t mode-slot (effect-lines + i) m (λ e. omega arith)) a (effect-places form s a) small (here .effects a small))
+      (λ a small. order-same run-lines t u (λ i less. kept t mode-slot (run-lines + i) m (λ e. omega arith)) a (run-places form s a) small (here .runs a small))

@@ -20,6 +20,7 @@ use Rattle.steps.specs.Held.{table-in}
 use Rattle.steps.specs.AtHand.{At-hand}
 use Rattle.steps.specs.Flags.{Open-flags, with-flag}
 use Rattle.steps.specs.Opened.{open-in, Opened}
+use Rattle.meaning.specs.declared.Form.the-variants.{Flags}
 
 -- GATHERING. Those from fluent f up that have a flag.
 unfoldable pub flagged-from : List ℕ → ℕ → List ℕ
@@ -119,25 +120,25 @@ module _ (flags held : List ℕ) (k f : ℕ) (gathers : Gathering flags held k f
         }
 
 -- THE OPEN FLUENTS are those with a flag.
-module _ (s t : List ℕ) (a : ℕ) (marks flags : State) (here : At-hand s t) (open-are : Open-flags (table-in s) a marks flags) where
-  ranged : Ranged format (table-in s)
-  ranged = table-ranged format s 0 (table-in s) (here .table-end) (here .table)
+module _ (s t : List ℕ) (a : ℕ) (marks flags : State) (here : At-hand Flags s t) (open-are : Open-flags (table-in Flags s) a marks flags) where
+  ranged : Ranged format (table-in Flags s)
+  ranged = table-ranged format s 0 (table-in Flags s) (here .table-end) (here .table)
 
   abbrev is-open : ℕ → Bool
-  is-open f = both (in-bodies (table-in s) a f) (fails (known-whether marks f))
+  is-open f = both (in-bodies (table-in Flags s) a f) (fails (known-whether marks f))
 
   flag-open : (f : ℕ) → f < format .fluents → eqb (getD flags f 0) 1 ≡ is-open f
   flag-open f near =
       ap (λ (m : ℕ). eqb m 1) (open-are .flag f near)
       ∙ by-test (is-open f) (λ e. ap (λ (m : ℕ). eqb m 1) (pick-true _ _ _ e) ∙ sym e) (λ e. ap (λ (m : ℕ). eqb m 1) (pick-false _ _ _ e) ∙ sym e)
 
-  flagged-open : with-flag flags ≡ open-fluents (table-in s) a marks
+  flagged-open : with-flag flags ≡ open-fluents (table-in Flags s) a marks
   unfolding with-flag open-fluents
   flagged-open =
       let few = ranged .fluents in
-      upward-same (λ (f : ℕ). eqb (getD flags f 0) 1) is-open (table-in s .fluents) (format .fluents) 0 few
+      upward-same (λ (f : ℕ). eqb (getD flags f 0) 1) is-open (table-in Flags s .fluents) (format .fluents) 0 few
       (λ f h. flag-open f (omega arith))
-      (λ f h i. flag-open f (omega arith) ∙ by-test (is-open f) (λ e. let below = in-bodies-within format (table-in s) ranged a f (both-left _ _ e) in absurd (omega arith)) (λ e. e))
+      (λ f h i. flag-open f (omega arith) ∙ by-test (is-open f) (λ e. let below = in-bodies-within format (table-in Flags s) ranged a f (both-left _ _ e) in absurd (omega arith)) (λ e. e))
 
-  pub all-opened : (r : List ℕ) → Opened (with-flag flags) r → Opened (open-fluents (table-in s) a marks) r
+  pub all-opened : (r : List ℕ) → Opened (with-flag flags) r → Opened (open-fluents (table-in Flags s) a marks) r
   all-opened r opened = subst (λ (fs : List ℕ). Opened fs r) flagged-open opened

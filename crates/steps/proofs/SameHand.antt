@@ -5,6 +5,7 @@ use native.Mathlib.Omega.{arith}
 use mathlib.Core.Path.{_≡_, _∙_, ap}
 use mathlib.Core.List.{List}
 use lib.ListN.{getD}
+use Rattle.meaning.specs.declared.Form.{Form}
 use Rattle.meaning.specs.Limits.{format}
 use Rattle.bytes.specs.Bits.{bit-of}
 use Rattle.reading.specs.Noted.{effect-lines, run-lines, sensed-from, sensed-to, plan-slot, items-slot, goals-slot, guards-slot, mode-slot, pair-slot, pair-there, word-bits}
@@ -20,8 +21,8 @@ pub record Other (j : ℕ) : Type 0 where
   pub mode : j ≡ mode-slot → ⊥
   pub lines : effect-lines ≤ j → sensed-from ≤ j
 
-module _ (s t u : List ℕ) (same : (j : ℕ) → Other j → getD u j 0 ≡ getD t j 0) where
-  same-plan : plan-in s u ≡ plan-in s t
+module _ (form : Form) (s t u : List ℕ) (same : (j : ℕ) → Other j → getD u j 0 ≡ getD t j 0) where
+  same-plan : plan-in form s u ≡ plan-in form s t
   unfolding plan-in
   same-plan = rw (same plan-slot (omega arith))
 
@@ -29,7 +30,7 @@ module _ (s t u : List ℕ) (same : (j : ℕ) → Other j → getD u j 0 ≡ get
   unfolding goals-in
   same-goals = same goals-slot (omega arith)
 
-  same-whether : whether-in s u ≡ whether-in s t
+  same-whether : whether-in form s u ≡ whether-in form s t
   unfolding whether-in
   same-whether = rw same-goals
 
@@ -37,7 +38,7 @@ module _ (s t u : List ℕ) (same : (j : ℕ) → Other j → getD u j 0 ≡ get
   unfolding guards-at
   same-guards = same guards-slot (omega arith)
 
-  pub request-same : request-in s u ≡ request-in s t
+  pub request-same : request-in form s u ≡ request-in form s t
   unfolding request-in
   request-same = rw (same-plan, same-goals, same-whether)
 
@@ -45,8 +46,8 @@ module _ (s t u : List ℕ) (same : (j : ℕ) → Other j → getD u j 0 ≡ get
   unfolding guards-in
   guards-same = rw same-guards
 
-  module _ (here : At-hand s t) where
-    senses-same : (a : ℕ) → a < format .actions → Senses s u a
+  module _ (here : At-hand form s t) where
+    senses-same : (a : ℕ) → a < format .actions → Senses form s u a
     unfolding pair-there
     senses-same a small =
         let was = here .senses a small in
@@ -61,7 +62,7 @@ module _ (s t u : List ℕ) (same : (j : ℕ) → Other j → getD u j 0 ≡ get
           any = rw to (was .any);
         }
 
-    pub hand-same : ((a : ℕ) → a < format .actions → In-order u effect-lines a (effect-places s a)) → ((a : ℕ) → a < format .actions → In-order u run-lines a (run-places s a)) → At-hand s u
+    pub hand-same : ((a : ℕ) → a < format .actions → In-order u effect-lines a (effect-places form s a)) → ((a : ℕ) → a < format .actions → In-order u run-lines a (run-places form s a)) → At-hand form s u
     hand-same effects runs =
         let few = here .held .few in
         record {
@@ -77,13 +78,13 @@ module _ (s t u : List ℕ) (same : (j : ℕ) → Other j → getD u j 0 ≡ get
           held = rw same-plan (record {
             few = few;
             written = here .held .written;
-            kept = kept-agree (plan-in s t) 0 t u (record {
+            kept = kept-agree form (plan-in form s t) 0 t u (record {
               places = λ j _ h. same (0 + j) (omega arith);
               ends = λ j _ h. same (2 * format .items + j) (omega arith);
               counts = λ j _ h. same (3 * format .items + j) (omega arith);
             }) (here .held .kept);
           });
-          nexts = rw same-plan (nexts-agree (plan-in s t) (format .items) 0 t u (record { slot = λ j _ h. same (format .items + j) (omega arith) }) (here .nexts));
+          nexts = rw same-plan (nexts-agree (plan-in form s t) (format .items) 0 t u (record { slot = λ j _ h. same (format .items + j) (omega arith) }) (here .nexts));
           goals = rw (same-goals, same-whether) (here .goals);
           whether-end = here .whether-end;
           whether = rw same-whether (here .whether);

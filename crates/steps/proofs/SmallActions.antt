@@ -7,12 +7,12 @@ use mathlib.Core.List.{List}
 use borrow.Author.Tests.{leb-false}
 use Rattle.meaning.specs.Limits.{format}
 use Rattle.meaning.specs.Requests.{Sequence}
-use Rattle.meaning.specs.declared.Form.the-variants.{Flags}
+use Rattle.meaning.specs.declared.Form.{Form}
 use Rattle.meaning.specs.Reading.{got, Met, plan-at}
-use Rattle.meaning.proofs.PlanReads.{Said, Passed-on, plan-on}
+use Rattle.meaning.proofs.PlanReads.{Said, Passed-as, plan-on-as}
 use Rattle.steps.specs.Small.{Small, Small-item, Small-under}
 
-module _ (n m : ℕ) (s : List ℕ) (few : m ≤ format .actions) where
+module _ (form : Form) (n m : ℕ) (s : List ℕ) (few : m ≤ format .actions) where
   abbrev plan-few : Said
   plan-few = record {
     item = λ deep p met x e. Small-item (x .value);
@@ -21,7 +21,7 @@ module _ (n m : ℕ) (s : List ℕ) (few : m ≤ format .actions) where
     branches = λ deep left p met x e. Small-under (x .value);
   }
 
-  few-passed : Passed-on format n m s plan-few
+  few-passed : Passed-as format form n m s plan-few
   unfolding Small
   few-passed = record {
     an-action = λ deep p met x q _ _ _ within. let below = leb-false m x within in omega (arith, below, few);
@@ -33,5 +33,5 @@ module _ (n m : ℕ) (s : List ℕ) (few : m ≤ format .actions) where
     a-branch = λ deep left p met c q b r rest e _ _ one more. (one, more);
   }
 
-  pub plan-small : (p : ℕ) (x : Met (Sequence ℕ)) (e : ℕ) → plan-at format Flags n m s p ≡ got x e → Small (x .value)
-  plan-small p = plan-on format n m s plan-few few-passed p .holds
+  pub plan-small : (p : ℕ) (x : Met (Sequence ℕ)) (e : ℕ) → plan-at format form n m s p ≡ got x e → Small (x .value)
+  plan-small p = plan-on-as format form n m s plan-few few-passed p .holds

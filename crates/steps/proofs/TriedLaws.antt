@@ -30,6 +30,7 @@ use Rattle.steps.specs.AtHand.{At-hand, Marked}
 use Rattle.steps.specs.Opened.{open-in, Opened, Filling}
 use Rattle.steps.specs.Steps.{narrow-mode, mode-in, does-in, after-in, refused-in, tried-as}
 use Rattle.steps.proofs.HandLaws.{sections}
+use Rattle.meaning.specs.declared.Form.the-variants.{Flags}
 
 -- ENTRIES BY THEIR NUMBERS.
 has-at : (fs : List ℕ) (j : ℕ) → j < length fs → Has fs (getD fs j 0)
@@ -77,9 +78,9 @@ module _ (t : Table) (a : ℕ) (marks : State) where
       }
 
 -- AN ACTION TRIED BY CASES.
-module _ (s notes : List ℕ) (here : At-hand s notes) (a : ℕ) (marks : State) (marked : Marked marks) (held : List ℕ) (found : Opened (open-fluents (table-in s) a marks) held) where
+module _ (s notes : List ℕ) (here : At-hand Flags s notes) (a : ℕ) (marks : State) (marked : Marked marks) (held : List ℕ) (found : Opened (open-fluents (table-in Flags s) a marks) held) where
   abbrev t : Table
-  t = table-in s
+  t = table-in Flags s
 
   narrow : t .fluents ≤ format .fluents
   narrow = sections s notes here .few
@@ -158,7 +159,7 @@ Led : Step State → Type 0
 Led (leads-to o) = Unit {0}
 Led (refuses n c) = ⊥
 
-not-led : (n : ℕ) (c : Concerned State) (o : Outcome State) → refuses n c ≡ leads-to o → ⊥
+pub not-led : (n : ℕ) (c : Concerned State) (o : Outcome State) → refuses n c ≡ leads-to o → ⊥
 unfolding Led
 not-led n c o e = subst Led (sym e) tt
 

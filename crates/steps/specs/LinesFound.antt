@@ -15,13 +15,14 @@ use Rattle.meaning.specs.Asking.{short-by}
 use Rattle.reading.specs.Noted.{sensed-from, sensed-to, pair-there}
 use Rattle.reading.specs.Listed.{listed}
 use Rattle.steps.specs.Held.{table-in}
+use Rattle.meaning.specs.declared.Form.{Form}
 
 -- THE PLACES of an action's lines, in file order.
-unfoldable pub run-places : List ℕ → (a : ℕ) → List ℕ
-run-places s a = map (λ (r : Executability). r .place) (executability-of (table-in s) a)
+unfoldable pub run-places : Form → List ℕ → (a : ℕ) → List ℕ
+run-places form s a = map (λ (r : Executability). r .place) (executability-of (table-in form s) a)
 
-unfoldable pub effect-places : List ℕ → (a : ℕ) → List ℕ
-effect-places s a = map (λ (e : Effect). e .place) (effects-of (table-in s) a)
+unfoldable pub effect-places : Form → List ℕ → (a : ℕ) → List ℕ
+effect-places form s a = map (λ (e : Effect). e .place) (effects-of (table-in form s) a)
 
 -- WHAT ASKING GIVES of executability lines, by the bytes behind these places. How many literals of a line's body fail the test.
 module _ (s : List ℕ) (test : ℕ → Bool) where
@@ -45,10 +46,10 @@ unfoldable pub given-at : List ℕ → (ℕ → Bool) → List ℕ → ℕ → B
 given-at s test places l = some-of (λ (p : ℕ). both (eqb (getD s (p + 1) 0) l) (each-of test (listed s (p + 2)))) places
 
 -- WHAT IT SENSES, with the smallest fluent as the limit less it and the largest as one more.
-pub record Senses (s t : List ℕ) (a : ℕ) : Type 0 where
-  pub pair : (f : ℕ) → f < format .fluents → pair-there t a f ≡ senses (knowledge-of (table-in s) a) f
+pub record Senses (form : Form) (s t : List ℕ) (a : ℕ) : Type 0 where
+  pub pair : (f : ℕ) → f < format .fluents → pair-there t a f ≡ senses (knowledge-of (table-in form s) a) f
   pub most : getD t (sensed-from + a) 0 ≤ format .fluents
-  pub from : (f : ℕ) → senses (knowledge-of (table-in s) a) f ≡ true → format .fluents - getD t (sensed-from + a) 0 ≤ f
-  pub to : (f : ℕ) → senses (knowledge-of (table-in s) a) f ≡ true → f < getD t (sensed-to + a) 0
+  pub from : (f : ℕ) → senses (knowledge-of (table-in form s) a) f ≡ true → format .fluents - getD t (sensed-from + a) 0 ≤ f
+  pub to : (f : ℕ) → senses (knowledge-of (table-in form s) a) f ≡ true → f < getD t (sensed-to + a) 0
   pub last : getD t (sensed-to + a) 0 ≤ format .fluents
-  pub any : ltb 0 (getD t (sensed-to + a) 0) ≡ sensing (table-in s) a
+  pub any : ltb 0 (getD t (sensed-to + a) 0) ≡ sensing (table-in form s) a

@@ -8,8 +8,9 @@ use Rattle.meaning.specs.Tests.{pick}
 use Rattle.meaning.specs.Limits.{format}
 use Rattle.meaning.specs.Requests.{Sequence, done, item, Item, act, branching, Branches, none, branch}
 use Rattle.meaning.specs.Derivations.{join}
-use Rattle.meaning.specs.declared.Form.the-variants.{Flags}
+use Rattle.meaning.specs.declared.Form.{Form}
 use Rattle.reading.specs.Noted.{item-place, item-next, around-from}
+use Rattle.reading.specs.Listed as Listed
 use Rattle.reading.specs.Planned.{items-of, items-in, bytes-of, place-of, following}
 use Rattle.finding.specs.PlansHeld.{Item-written, Branch-kept}
 
@@ -85,20 +86,20 @@ pub record Branch-laid (t : List ℕ) (b : Sequence ℕ) (met p : ℕ) (d after 
   pub there : 0 < items-of d → met < items-of b
   pub rest : 0 < items-of d → rest-at b met ≡ join d after
 
-unfoldable pub Branches-laid : (t : List ℕ) (b : Sequence ℕ) (met p : ℕ) (after : Sequence ℕ) → Branches ℕ → Type 0
-Branches-laid t b met p after none = Unit {0}
-Branches-laid t b met p after (branch c d bs) =
-    Branch-laid t b met (p + (1 + length c) + (2 + bytes-of Flags d)) d after × Branches-laid t b (met + items-of d) (p + (1 + length c) + (2 + bytes-of Flags d)) after bs
+unfoldable pub Branches-laid : Form → (t : List ℕ) (b : Sequence ℕ) (met p : ℕ) (after : Sequence ℕ) → Branches ℕ → Type 0
+Branches-laid form t b met p after none = Unit {0}
+Branches-laid form t b met p after (branch c d bs) =
+    Branch-laid t b met (p + (1 + Listed.span form (length c)) + (2 + bytes-of form d)) d after × Branches-laid form t b (met + items-of d) (p + (1 + Listed.span form (length c)) + (2 + bytes-of form d)) after bs
 
-unfoldable pub Inside-laid : (t : List ℕ) (b : Sequence ℕ) (i : ℕ) (after : Sequence ℕ) → Item ℕ → Type 0
-Inside-laid t b i after (act p a) = a < format .actions
-Inside-laid t b i after (branching p bs) = Branches-laid t b (i + 1) (p + 2) after bs
+unfoldable pub Inside-laid : Form → (t : List ℕ) (b : Sequence ℕ) (i : ℕ) (after : Sequence ℕ) → Item ℕ → Type 0
+Inside-laid form t b i after (act p a) = a < format .actions
+Inside-laid form t b i after (branching p bs) = Branches-laid form t b (i + 1) (p + 2) after bs
 
-pub record Item-laid (s t : List ℕ) (b : Sequence ℕ) (i : ℕ) : Type 0 where
+pub record Item-laid (form : Form) (s t : List ℕ) (b : Sequence ℕ) (i : ℕ) : Type 0 where
   pub this : Item ℕ
   pub after : Sequence ℕ
   pub rest : rest-at b i ≡ item this after
   pub place : getD t (item-place + i) 0 ≡ place-of this
-  pub written : Item-written s this
-  pub inside : Inside-laid t b i after this
+  pub written : Item-written form s this
+  pub inside : Inside-laid form t b i after this
   pub next : Next t b i after

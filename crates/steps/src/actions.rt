@@ -7,6 +7,7 @@ ghost use Rattle.meaning.specs.States.{known, can-be-run, state-after};
 ghost use Rattle.meaning.specs.Asking.{nearest, asked};
 ghost use Rattle.steps.specs.Held.{table-in};
 ghost use Rattle.steps.specs.AtHand.{At-hand, Marked};
+ghost use Rattle.meaning.specs.declared.Form.the-variants.{Flags};
 use bytes::bytes::wide;
 use meaning::Runs;
 use reading::marks::Look;
@@ -24,9 +25,9 @@ use reading::notes::next_line;
 
 // The line of the action that is short by the fewest literals, the earliest of equals, where none allows it.
 fn nearest(s: &[u8], t: &Notes, a: usize, marks: &Marks) -> Runs
-    requires { ⌜ At-hand (now s) (now t) ⌝ }
+    requires { ⌜ At-hand Flags (now s) (now t) ⌝ }
     requires { ⌜ a < format .actions ⌝ }
-    ensures { λ r. ⌜ r ≡ nearest (known (now (marks .entry))) (executability-of (table-in (now (s .entry))) a) ⌝ }
+    ensures { λ r. ⌜ r ≡ nearest (known (now (marks .entry))) (executability-of (table-in Flags (now (s .entry))) a) ⌝ }
 {
     let first = first_line(t, notes::EXECUTABILITY, a);
     if first == 0 {
@@ -51,9 +52,9 @@ fn nearest(s: &[u8], t: &Notes, a: usize, marks: &Marks) -> Runs
 
 // Whether the action can be run: the first of its lines that allows it, or else the nearest. Only where none allows it are literals counted.
 pub fn ask(s: &[u8], t: &Notes, a: usize, marks: &Marks) -> Runs
-    requires { ⌜ At-hand (now s) (now t) ⌝ }
+    requires { ⌜ At-hand Flags (now s) (now t) ⌝ }
     requires { ⌜ a < format .actions ⌝ }
-    ensures { λ r. ⌜ r ≡ asked (table-in (now (s .entry))) a (now (marks .entry)) ⌝ }
+    ensures { λ r. ⌜ r ≡ asked (table-in Flags (now (s .entry))) a (now (marks .entry)) ⌝ }
 {
     let mut k = first_line(t, notes::EXECUTABILITY, a);
     while 0 < k {
@@ -70,9 +71,9 @@ pub fn ask(s: &[u8], t: &Notes, a: usize, marks: &Marks) -> Runs
 
 // Some line allows it.
 pub fn can_be_run(s: &[u8], t: &Notes, a: usize, marks: &Marks) -> bool
-    requires { ⌜ At-hand (now s) (now t) ⌝ }
+    requires { ⌜ At-hand Flags (now s) (now t) ⌝ }
     requires { ⌜ a < format .actions ⌝ }
-    ensures { λ r. ⌜ r ≡ can-be-run (table-in (now (s .entry))) a (now (marks .entry)) ⌝ }
+    ensures { λ r. ⌜ r ≡ can-be-run (table-in Flags (now (s .entry))) a (now (marks .entry)) ⌝ }
 {
     match ask(s, t, a, marks) {
         Runs::By(_) => true,
@@ -84,11 +85,11 @@ pub fn can_be_run(s: &[u8], t: &Notes, a: usize, marks: &Marks) -> bool
 // The state after an action that is not a sensing one and can be run. Each effect in turn tells what it gives or undoes what it may, and that
 // is final: no contradiction was found (16), so what one effect tells no other may undo. A body is looked at only where the mark could change.
 pub fn state_after(s: &[u8], t: &Notes, a: usize, marks: &Marks) -> Marks
-    requires { ⌜ At-hand (now s) (now t) ⌝ }
+    requires { ⌜ At-hand Flags (now s) (now t) ⌝ }
     requires { ⌜ a < format .actions ⌝ }
     requires { ⌜ Marked (now marks) ⌝ }
-    requires { ⌜ can-be-run (table-in (now s)) a (now marks) ≡ true ⌝ }
-    ensures { λ r. ⌜ r ≡ state-after (table-in (now (s .entry))) a (now (marks .entry)) ⌝ }
+    requires { ⌜ can-be-run (table-in Flags (now s)) a (now marks) ≡ true ⌝ }
+    ensures { λ r. ⌜ r ≡ state-after (table-in Flags (now (s .entry))) a (now (marks .entry)) ⌝ }
 {
     let mut next = *marks;
     let mut k = first_line(t, notes::EFFECTS, a);

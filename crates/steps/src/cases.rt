@@ -13,6 +13,7 @@ ghost use Rattle.steps.specs.Held.{table-in};
 ghost use Rattle.steps.specs.AtHand.{At-hand, Marked};
 ghost use Rattle.steps.specs.Steps.{tried-as};
 ghost use Rattle.steps.specs.Opened.{open-in, Filling};
+ghost use Rattle.meaning.specs.declared.Form.the-variants.{Flags};
 use super::actions::can_be_run;
 use super::actions::state_after;
 use super::opening::Open;
@@ -31,10 +32,10 @@ pub enum Tried {
 
 // The action can be run in each filling of the open fluents from number i up.
 fn runs_in_each(s: &[u8], t: &Notes, a: usize, held: &Open, i: usize, marks: Marks) -> bool
-    requires { ⌜ At-hand (now s) (now t) ⌝ }
+    requires { ⌜ At-hand Flags (now s) (now t) ⌝ }
     requires { ⌜ a < format .actions ⌝ }
     requires { ⌜ Filling (now held) i marks ⌝ }
-    ensures { λ r. ⌜ r ≡ each-of (can-be-run (table-in (now (s .entry))) a) (fillings (drop i (open-in (now (held .entry)))) marks) ⌝ }
+    ensures { λ r. ⌜ r ≡ each-of (can-be-run (table-in Flags (now (s .entry))) a) (fillings (drop i (open-in (now (held .entry)))) marks) ⌝ }
 {
     if i < wide(held[0]) {
         let next = i + 1;
@@ -72,11 +73,11 @@ fn shared(one: &Marks, other: &Marks) -> Marks
 
 // What the states after the action share, which is run in each filling of the open fluents from number i up.
 fn after_in_each(s: &[u8], t: &Notes, a: usize, held: &Open, i: usize, marks: Marks) -> Marks
-    requires { ⌜ At-hand (now s) (now t) ⌝ }
+    requires { ⌜ At-hand Flags (now s) (now t) ⌝ }
     requires { ⌜ a < format .actions ⌝ }
     requires { ⌜ Filling (now held) i marks ⌝ }
-    requires { ⌜ each-of (can-be-run (table-in (now s)) a) (fillings (drop i (open-in (now held))) marks) ≡ true ⌝ }
-    ensures { λ r. ⌜ r ≡ after-each (table-in (now (s .entry))) a (fillings (drop i (open-in (now (held .entry)))) marks) marks ⌝ }
+    requires { ⌜ each-of (can-be-run (table-in Flags (now s)) a) (fillings (drop i (open-in (now held))) marks) ≡ true ⌝ }
+    ensures { λ r. ⌜ r ≡ after-each (table-in Flags (now (s .entry))) a (fillings (drop i (open-in (now (held .entry)))) marks) marks ⌝ }
 {
     if i < wide(held[0]) {
         let next = i + 1;
@@ -93,10 +94,10 @@ fn after_in_each(s: &[u8], t: &Notes, a: usize, held: &Open, i: usize, marks: Ma
 
 // The action is tried by cases. Where it can be run by what is known, no case is looked at.
 pub fn try_cases(s: &[u8], t: &Notes, a: usize, marks: &Marks) -> Tried
-    requires { ⌜ At-hand (now s) (now t) ⌝ }
+    requires { ⌜ At-hand Flags (now s) (now t) ⌝ }
     requires { ⌜ a < format .actions ⌝ }
     requires { ⌜ Marked (now marks) ⌝ }
-    ensures { λ r. ⌜ cases-does (table-in (now (s .entry))) a (now (marks .entry)) ≡ tried-as 1 (table-in (now (s .entry))) a (now (marks .entry)) r ⌝ }
+    ensures { λ r. ⌜ cases-does (table-in Flags (now (s .entry))) a (now (marks .entry)) ≡ tried-as 1 (table-in Flags (now (s .entry))) a (now (marks .entry)) r ⌝ }
 {
     let held = opened(s, t, a, marks);
     if limits::OPEN < wide(held[0]) {
@@ -115,12 +116,12 @@ pub fn try_cases(s: &[u8], t: &Notes, a: usize, marks: &Marks) -> Tried
 
 // The state after an action that is not a sensing one and can be run by cases.
 pub fn after_cases(s: &[u8], t: &Notes, a: usize, marks: &Marks) -> Marks
-    requires { ⌜ At-hand (now s) (now t) ⌝ }
+    requires { ⌜ At-hand Flags (now s) (now t) ⌝ }
     requires { ⌜ a < format .actions ⌝ }
     requires { ⌜ Marked (now marks) ⌝ }
-    requires { ⌜ too-many (table-in (now s)) a (now marks) ≡ false ⌝ }
-    requires { ⌜ runs-by-cases (table-in (now s)) a (now marks) ≡ true ⌝ }
-    ensures { λ r. ⌜ r ≡ after-cases (table-in (now (s .entry))) a (now (marks .entry)) ⌝ }
+    requires { ⌜ too-many (table-in Flags (now s)) a (now marks) ≡ false ⌝ }
+    requires { ⌜ runs-by-cases (table-in Flags (now s)) a (now marks) ≡ true ⌝ }
+    ensures { λ r. ⌜ r ≡ after-cases (table-in Flags (now (s .entry))) a (now (marks .entry)) ⌝ }
 {
     let held = opened(s, t, a, marks);
     after_in_each(s, t, a, &held, 0, *marks)

@@ -1,12 +1,14 @@
 ghost use mathlib.Core.Path.{_≡_};
 ghost use Prim.Native.Nat.{_+_, _<_};
 ghost use lib.ListN.{getD};
+ghost use Rattle.meaning.specs.Tests.{each-of};
 ghost use Rattle.finding.specs.Branches.{Branch-here};
+ghost use Rattle.reading.specs.Listed.{listed-as, Literals-here};
 ghost use Rattle.reading.specs.Planned.{items-of};
 ghost use Rattle.steps.specs.Held.{plan-in};
-ghost use Rattle.steps.specs.AtHand.{At-hand};
+ghost use Rattle.steps.specs.AtHand.{At-hand, Marked-as};
 ghost use Rattle.steps.specs.Rests.{start};
-ghost use Rattle.steps.specs.Steps.{Followed, Into, Chosen};
+ghost use Rattle.steps.specs.Steps.{knows-as, Followed, Into, Chosen};
 use bytes::bytes::wide;
 use bytes::limits;
 use finding::branches::empty;
@@ -14,12 +16,14 @@ use finding::branches::next_item;
 use finding::branches::next_place;
 use finding::branches::sequence_of;
 use finding::places::Found;
+use meaning::Form;
 use reading::marks::Marks;
 use reading::marks::Test;
 use reading::marks::each_holds;
 use reading::notes;
 use reading::notes::Notes;
 use reading::notes::get;
+use valuing::states::each_known;
 
 // The first position of a plan with so many items.
 pub fn start_of(items: usize) -> usize
@@ -29,10 +33,10 @@ pub fn start_of(items: usize) -> usize
 }
 
 // The position after item i: the next item of its sequence, or else what follows the branchings that end with it.
-pub fn follow(s: &[u8], t: &Notes, i: usize) -> usize
-    requires { ⌜ At-hand (now s) (now t) ⌝ }
-    requires { ⌜ i < items-of (plan-in (now s) (now t)) ⌝ }
-    ensures { λ r. ⌜ Followed (now (s .entry)) (now (t .entry)) i r ⌝ }
+pub fn follow(form: Form, s: &[u8], t: &Notes, i: usize) -> usize
+    requires { ⌜ At-hand form (now s) (now t) ⌝ }
+    requires { ⌜ i < items-of (plan-in form (now s) (now t)) ⌝ }
+    ensures { λ r. ⌜ Followed form (now (s .entry)) (now (t .entry)) i r ⌝ }
 {
     let slot = notes::ITEM_NEXT + i;
     let mut at = get(t, slot);
@@ -45,26 +49,39 @@ pub fn follow(s: &[u8], t: &Notes, i: usize) -> usize
 }
 
 // Where the branch begins that has its condition at p and `item` items before it; with no item of its own, after branching i.
-fn into(s: &[u8], t: &Notes, i: usize, p: usize, item: usize) -> usize
-    requires { ⌜ At-hand (now s) (now t) ⌝ }
-    requires { ⌜ i < items-of (plan-in (now s) (now t)) ⌝ }
-    requires { ⌜ Branch-here (now s) p item ⌝ }
-    ensures { λ r. ⌜ Into (now (s .entry)) (now (t .entry)) i p item r ⌝ }
+fn into(form: Form, s: &[u8], t: &Notes, i: usize, p: usize, item: usize) -> usize
+    requires { ⌜ At-hand form (now s) (now t) ⌝ }
+    requires { ⌜ i < items-of (plan-in form (now s) (now t)) ⌝ }
+    requires { ⌜ Branch-here form (now s) p item ⌝ }
+    ensures { λ r. ⌜ Into form (now (s .entry)) (now (t .entry)) i p item r ⌝ }
 {
-    let q = sequence_of(s, p);
+    let q = sequence_of(form, s, p);
     let none = empty(s, q);
     if none {
-        return follow(s, t, i);
+        return follow(form, s, t, i);
     }
     item
 }
 
+// Each literal of the list at p is known true.
+fn is_known(form: Form, s: &[u8], p: usize, marks: &Marks) -> bool
+    requires { ⌜ Literals-here form (now s) p ⌝ }
+    requires { ⌜ Marked-as form (now s) (now marks) ⌝ }
+    ensures { λ r. ⌜ r ≡ each-of (knows-as form (now (s .entry)) (now (marks .entry))) (listed-as form (now (s .entry)) p) ⌝ }
+{
+    match form {
+        Form::Flags => each_holds(Test::Known, marks, s, p),
+        Form::Valued => each_known(s, marks, p),
+    }
+}
+
 // Where the walk goes on from the branching that is item i: in the branch whose condition is known true.
-pub fn chosen(s: &[u8], t: &Notes, i: usize, marks: &Marks) -> Found
-    requires { ⌜ At-hand (now s) (now t) ⌝ }
-    requires { ⌜ i < items-of (plan-in (now s) (now t)) ⌝ }
+pub fn chosen(form: Form, s: &[u8], t: &Notes, i: usize, marks: &Marks) -> Found
+    requires { ⌜ At-hand form (now s) (now t) ⌝ }
+    requires { ⌜ i < items-of (plan-in form (now s) (now t)) ⌝ }
     requires { ⌜ getD (now s) (getD (now t) (0 + i) 0) 0 ≡ 255 ⌝ }
-    ensures { λ r. ⌜ Chosen (now (s .entry)) (now (t .entry)) i (now (marks .entry)) r ⌝ }
+    requires { ⌜ Marked-as form (now s) (now marks) ⌝ }
+    ensures { λ r. ⌜ Chosen form (now (s .entry)) (now (t .entry)) i (now (marks .entry)) r ⌝ }
 {
     let slot = notes::ITEM_PLACE + i;
     let start = get(t, slot);
@@ -73,12 +90,12 @@ pub fn chosen(s: &[u8], t: &Notes, i: usize, marks: &Marks) -> Found
     let mut p = start + 2;
     let mut item = i + 1;
     while 0 < left {
-        let known = each_holds(Test::Known, marks, s, p);
+        let known = is_known(form, s, p, marks);
         if known {
-            return Found::At(into(s, t, i, p, item));
+            return Found::At(into(form, s, t, i, p, item));
         }
-        let q = next_place(s, t, p, item);
-        let j = next_item(s, t, p, item);
+        let q = next_place(form, s, t, p, item);
+        let j = next_item(form, s, t, p, item);
         p = q;
         item = j;
         left -= 1;

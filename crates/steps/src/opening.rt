@@ -9,6 +9,7 @@ ghost use Rattle.steps.specs.LinesFound.{effect-places, run-places};
 ghost use Rattle.steps.specs.AtHand.{At-hand, Marked};
 ghost use Rattle.steps.specs.Flags.{flagged, flagged-at, Open-flags, with-flag};
 ghost use Rattle.steps.specs.Opened.{Opened};
+ghost use Rattle.meaning.specs.declared.Form.the-variants.{Flags};
 use bytes::bytes::wide;
 use bytes::limits;
 use reading::marks::Marks;
@@ -43,9 +44,9 @@ fn flag_body(s: &[u8], p: usize, marks: &Marks, flags: &mut Marks)
 
 // Those of the bodies of the action's effects.
 fn flag_effects(s: &[u8], t: &Notes, a: usize, marks: &Marks, flags: &mut Marks)
-    requires { ⌜ At-hand (now s) (now t) ⌝ }
+    requires { ⌜ At-hand Flags (now s) (now t) ⌝ }
     requires { ⌜ a < format .actions ⌝ }
-    ensures { λ _. ⌜ now (flags .exit) ≡ flagged-at (now (s .entry)) (now (marks .entry)) 2 (effect-places (now (s .entry)) a) (now (flags .entry)) ⌝ }
+    ensures { λ _. ⌜ now (flags .exit) ≡ flagged-at (now (s .entry)) (now (marks .entry)) 2 (effect-places Flags (now (s .entry)) a) (now (flags .entry)) ⌝ }
 {
     let mut k = first_line(t, notes::EFFECTS, a);
     while 0 < k {
@@ -58,9 +59,9 @@ fn flag_effects(s: &[u8], t: &Notes, a: usize, marks: &Marks, flags: &mut Marks)
 
 // Those of the bodies of its executability lines.
 fn flag_lines(s: &[u8], t: &Notes, a: usize, marks: &Marks, flags: &mut Marks)
-    requires { ⌜ At-hand (now s) (now t) ⌝ }
+    requires { ⌜ At-hand Flags (now s) (now t) ⌝ }
     requires { ⌜ a < format .actions ⌝ }
-    ensures { λ _. ⌜ now (flags .exit) ≡ flagged-at (now (s .entry)) (now (marks .entry)) 1 (run-places (now (s .entry)) a) (now (flags .entry)) ⌝ }
+    ensures { λ _. ⌜ now (flags .exit) ≡ flagged-at (now (s .entry)) (now (marks .entry)) 1 (run-places Flags (now (s .entry)) a) (now (flags .entry)) ⌝ }
 {
     let mut k = first_line(t, notes::EXECUTABILITY, a);
     while 0 < k {
@@ -73,10 +74,10 @@ fn flag_lines(s: &[u8], t: &Notes, a: usize, marks: &Marks, flags: &mut Marks)
 
 // Those of all bodies of the action, and no others.
 fn open_flags(s: &[u8], t: &Notes, a: usize, marks: &Marks) -> Marks
-    requires { ⌜ At-hand (now s) (now t) ⌝ }
+    requires { ⌜ At-hand Flags (now s) (now t) ⌝ }
     requires { ⌜ a < format .actions ⌝ }
     requires { ⌜ Marked (now marks) ⌝ }
-    ensures { λ r. ⌜ Open-flags (table-in (now (s .entry))) a (now (marks .entry)) r ⌝ }
+    ensures { λ r. ⌜ Open-flags (table-in Flags (now (s .entry))) a (now (marks .entry)) r ⌝ }
 {
     let mut flags = [0u8; limits::FLUENTS];
     flag_effects(s, t, a, marks, &mut flags);
@@ -109,10 +110,10 @@ fn gathered(flags: &Marks) -> Open
 
 // The open fluents of the action.
 pub fn opened(s: &[u8], t: &Notes, a: usize, marks: &Marks) -> Open
-    requires { ⌜ At-hand (now s) (now t) ⌝ }
+    requires { ⌜ At-hand Flags (now s) (now t) ⌝ }
     requires { ⌜ a < format .actions ⌝ }
     requires { ⌜ Marked (now marks) ⌝ }
-    ensures { λ r. ⌜ Opened (open-fluents (table-in (now (s .entry))) a (now (marks .entry))) r ⌝ }
+    ensures { λ r. ⌜ Opened (open-fluents (table-in Flags (now (s .entry))) a (now (marks .entry))) r ⌝ }
 {
     let flags = open_flags(s, t, a, marks);
     gathered(&flags)

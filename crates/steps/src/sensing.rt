@@ -2,12 +2,13 @@ ghost use mathlib.Core.Path.{_≡_};
 ghost use Prim.Native.Nat.{_<_};
 ghost use Rattle.meaning.specs.Limits.{format};
 ghost use Rattle.meaning.specs.Lines.{knowledge-of, sensing, senses};
-ghost use Rattle.meaning.specs.States.{unknown-sensed};
 ghost use Rattle.meaning.specs.Schemes.{too-wide};
 ghost use Rattle.steps.specs.Held.{table-in};
-ghost use Rattle.steps.specs.AtHand.{At-hand, Marked};
-ghost use Rattle.steps.specs.Steps.{unknown-above, first-of};
+ghost use Rattle.steps.specs.AtHand.{At-hand, Marked, Marked-as};
+ghost use Rattle.steps.specs.Steps.{unknown-as, all-unknown, first-of};
+ghost use Rattle.meaning.specs.declared.Form.the-variants.{Flags};
 use bytes::limits;
+use meaning::Form;
 use reading::marks::Marks;
 use reading::notes;
 use reading::notes::Notes;
@@ -15,10 +16,10 @@ use reading::notes::get;
 use reading::notes::is_noted;
 
 // The action has a knowledge line.
-pub fn is_sensing(s: &[u8], t: &Notes, a: usize) -> bool
-    requires { ⌜ At-hand (now s) (now t) ⌝ }
+pub fn is_sensing(form: Form, s: &[u8], t: &Notes, a: usize) -> bool
+    requires { ⌜ At-hand form (now s) (now t) ⌝ }
     requires { ⌜ a < format .actions ⌝ }
-    ensures { λ r. ⌜ r ≡ sensing (table-in (now (s .entry))) a ⌝ }
+    ensures { λ r. ⌜ r ≡ sensing (table-in form (now (s .entry))) a ⌝ }
 {
     let slot = notes::SENSED_TO + a;
     let end = get(t, slot);
@@ -27,20 +28,20 @@ pub fn is_sensing(s: &[u8], t: &Notes, a: usize) -> bool
 
 // The action has a knowledge line for the fluent.
 pub fn looks_at(s: &[u8], t: &Notes, a: usize, f: usize) -> bool
-    requires { ⌜ At-hand (now s) (now t) ⌝ }
+    requires { ⌜ At-hand Flags (now s) (now t) ⌝ }
     requires { ⌜ a < format .actions ⌝ }
     requires { ⌜ f < format .fluents ⌝ }
-    ensures { λ r. ⌜ r ≡ senses (knowledge-of (table-in (now (s .entry))) a) f ⌝ }
+    ensures { λ r. ⌜ r ≡ senses (knowledge-of (table-in Flags (now (s .entry))) a) f ⌝ }
 {
     is_noted(t, a, f)
 }
 
 // The first fluent from `from` up that the action senses and that is unknown; the limit of fluents where there is none.
-pub fn next_unknown(s: &[u8], t: &Notes, a: usize, from: usize, marks: &Marks) -> usize
-    requires { ⌜ At-hand (now s) (now t) ⌝ }
+pub fn next_unknown(form: Form, s: &[u8], t: &Notes, a: usize, from: usize, marks: &Marks) -> usize
+    requires { ⌜ At-hand form (now s) (now t) ⌝ }
     requires { ⌜ a < format .actions ⌝ }
-    requires { ⌜ Marked (now marks) ⌝ }
-    ensures { λ r. ⌜ r ≡ first-of (unknown-above (table-in (now (s .entry))) a (now (marks .entry)) from) ⌝ }
+    requires { ⌜ Marked-as form (now s) (now marks) ⌝ }
+    ensures { λ r. ⌜ r ≡ first-of (unknown-as form (now (s .entry)) a (now (marks .entry)) from) ⌝ }
 {
     let last = notes::SENSED_TO + a;
     let end = get(t, last);
@@ -59,34 +60,34 @@ pub fn next_unknown(s: &[u8], t: &Notes, a: usize, from: usize, marks: &Marks) -
 }
 
 // The first of all that it senses and that is unknown.
-pub fn first_unknown(s: &[u8], t: &Notes, a: usize, marks: &Marks) -> usize
-    requires { ⌜ At-hand (now s) (now t) ⌝ }
+pub fn first_unknown(form: Form, s: &[u8], t: &Notes, a: usize, marks: &Marks) -> usize
+    requires { ⌜ At-hand form (now s) (now t) ⌝ }
     requires { ⌜ a < format .actions ⌝ }
-    requires { ⌜ Marked (now marks) ⌝ }
-    ensures { λ r. ⌜ r ≡ first-of (unknown-sensed (table-in (now (s .entry))) a (now (marks .entry))) ⌝ }
+    requires { ⌜ Marked-as form (now s) (now marks) ⌝ }
+    ensures { λ r. ⌜ r ≡ first-of (all-unknown form (now (s .entry)) a (now (marks .entry))) ⌝ }
 {
     let slot = notes::SENSED_FROM + a;
     let back = get(t, slot);
     let from = limits::FLUENTS - back;
-    next_unknown(s, t, a, from, marks)
+    next_unknown(form, s, t, a, from, marks)
 }
 
 // More of the fluents that it senses are unknown than a derivation has readings for (FORMAT 24.4). They are counted no further than that.
 pub fn is_too_wide(s: &[u8], t: &Notes, a: usize, marks: &Marks) -> bool
-    requires { ⌜ At-hand (now s) (now t) ⌝ }
+    requires { ⌜ At-hand Flags (now s) (now t) ⌝ }
     requires { ⌜ a < format .actions ⌝ }
     requires { ⌜ Marked (now marks) ⌝ }
-    ensures { λ r. ⌜ r ≡ too-wide (table-in (now (s .entry))) a (now (marks .entry)) ⌝ }
+    ensures { λ r. ⌜ r ≡ too-wide (table-in Flags (now (s .entry))) a (now (marks .entry)) ⌝ }
 {
     let mut met = 0;
-    let mut f = first_unknown(s, t, a, marks);
+    let mut f = first_unknown(Form::Flags, s, t, a, marks);
     while f < limits::FLUENTS {
         if met == limits::FORKED {
             return true;
         }
         met += 1;
         let above = f + 1;
-        f = next_unknown(s, t, a, above, marks);
+        f = next_unknown(Form::Flags, s, t, a, above, marks);
     }
     false
 }

@@ -16,7 +16,7 @@ use Rattle.meaning.proofs.TestLaws.{by-test, clash, same-test, both-true, both-
 use Rattle.meaning.proofs.ValueLaws.{numbers-has}
 use Rattle.bytes.specs.Bits.{bit-of}
 use Rattle.bytes.specs.Masks.{Allows, Few-values}
-use Rattle.valuing.specs.Valuing.{agreeing}
+use Rattle.valuing.specs.Valuing.{agreeing, leaves-beside}
 
 -- Some literal of the list names the fluent.
 unfoldable pub names : (s c : List ℕ) (fluent : ℕ) → Bool
@@ -33,14 +33,11 @@ unfolding fails
 unfailed true e = refl
 unfailed false e = sym e
 
-module _ (s b sets c : List ℕ) (so : Allows s b sets) (few : Few-values s) (near : (l : ℕ) → Has c l → l / 256 < format .fluents) where
-  set-is : (l v : ℕ) → Has c l → Has (numbers 0 (values-in s (l / 256))) v → bit-of (getD sets (l / 256) 0) v ≡ fits (literals-in s) b (l / 256) v
-  set-is l v has there =
-      let below = numbers-has 0 (values-in s (l / 256)) v there in let most = few .each (l / 256) in so .bits (l / 256) v (near l has) (omega arith)
-
-  agree-apart : agreeing s sets c ≡ true → exclusive (literals-in s) b c ≡ false
-  unfolding agreeing exclusive disagree values-of
-  agree-apart e =
+-- TWO LISTS.
+module _ (s b c : List ℕ) where
+  beside-apart : leaves-beside s b c ≡ true → exclusive (literals-in s) b c ≡ false
+  unfolding leaves-beside exclusive disagree values-of
+  beside-apart e =
       by-test (exclusive (literals-in s) b c)
       (λ x.
       let t = some-has _ b x in
@@ -48,15 +45,14 @@ module _ (s b sets c : List ℕ) (so : Allows s b sets) (few : Few-values s) (ne
       let u = some-has _ c (both-left _ _ (t .2)) in
       let k = u .0 in
       let same : k / 256 ≡ l / 256 = eqb-true _ _ (u .2) in
-      let w = some-has _ (numbers 0 (values-in s (k / 256))) (each-has _ c k e (u .1)) in
       let one : some-of (λ (v : ℕ). both (fits (literals-in s) b (k / 256) v) (fits (literals-in s) c (k / 256) v)) (numbers 0 (values-in s (k / 256))) ≡ true =
-      has-some _ (numbers 0 (values-in s (k / 256))) (w .0) (w .1) (both-true _ _ (sym (set-is k (w .0) (u .1) (w .1)) ∙ both-left _ _ (w .2)) (both-right _ _ (w .2))) in
+      each-has _ c k e (u .1) in
       clash (subst (λ (f : ℕ). some-of (λ (v : ℕ). both (fits (literals-in s) b f v) (fits (literals-in s) c f v)) (numbers 0 (values-in s f)) ≡ true) same one) (fails-true _ (both-right _ _ (t .2))))
       (λ f. f)
 
-  apart-agrees : each-of (λ (l : ℕ). leaves-one s l c) c ≡ true → exclusive (literals-in s) b c ≡ false → agreeing s sets c ≡ true
-  unfolding agreeing exclusive disagree values-of leaves-one names
-  apart-agrees leaves apart =
+  apart-beside : each-of (λ (l : ℕ). leaves-one s l c) c ≡ true → exclusive (literals-in s) b c ≡ false → leaves-beside s b c ≡ true
+  unfolding leaves-beside exclusive disagree values-of leaves-one names
+  apart-beside leaves apart =
       has-each _ c
       (λ k has.
       by-test (names s b (k / 256))
@@ -67,17 +63,34 @@ module _ (s b sets c : List ℕ) (so : Allows s b sets) (few : Few-values s) (ne
       let shared : names s c (l / 256) ≡ true = has-some (λ (m : ℕ). eqb (m / 256) (l / 256)) c k has (eq-eqb _ _ (sym same)) in
       by-test (disagree (literals-in s) b c (l / 256))
       (λ d. clash (has-some _ b l (t .1) (both-true _ _ shared d)) apart)
-      (λ d.
-      let agreed = subst (λ (f : ℕ). some-of (λ (v : ℕ). both (fits (literals-in s) b f v) (fits (literals-in s) c f v)) (numbers 0 (values-in s f)) ≡ true) same (unfailed _ d) in
-      let w = some-has _ (numbers 0 (values-in s (k / 256))) agreed in
-      has-some _ (numbers 0 (values-in s (k / 256))) (w .0) (w .1) (both-true _ _ (set-is k (w .0) has (w .1) ∙ both-left _ _ (w .2)) (both-right _ _ (w .2)))))
+      (λ d. subst (λ (f : ℕ). some-of (λ (v : ℕ). both (fits (literals-in s) b f v) (fits (literals-in s) c f v)) (numbers 0 (values-in s f)) ≡ true) same (unfailed _ d)))
       (λ e.
       let w = some-has _ (numbers 0 (values-in s (k / 256))) (each-has _ c k leaves has) in
-      has-some _ (numbers 0 (values-in s (k / 256))) (w .0) (w .1) (both-true _ _ (set-is k (w .0) has (w .1) ∙ unnamed-fits s b (k / 256) (w .0) e) (w .2))))
+      has-some _ (numbers 0 (values-in s (k / 256))) (w .0) (w .1) (both-true _ _ (unnamed-fits s b (k / 256) (w .0) e) (w .2))))
 
   -- FORMAT 26.23, of a list each of whose literals leaves its fluent a value.
-  pub agreeing-is : each-of (λ (l : ℕ). leaves-one s l c) c ≡ true → agreeing s sets c ≡ fails (exclusive (literals-in s) b c)
-  agreeing-is leaves =
+  pub beside-is : each-of (λ (l : ℕ). leaves-one s l c) c ≡ true → leaves-beside s b c ≡ fails (exclusive (literals-in s) b c)
+  beside-is leaves =
       same-test _ _
-      (λ e. fails-false _ (agree-apart e))
-      (λ e. apart-agrees leaves (fails-true _ e))
+      (λ e. fails-false _ (beside-apart e))
+      (λ e. apart-beside leaves (fails-true _ e))
+
+-- A LIST AND SETS that another leaves.
+module _ (s b sets c : List ℕ) (so : Allows s b sets) (few : Few-values s) (near : (l : ℕ) → Has c l → l / 256 < format .fluents) where
+  set-is : (l v : ℕ) → Has c l → Has (numbers 0 (values-in s (l / 256))) v → bit-of (getD sets (l / 256) 0) v ≡ fits (literals-in s) b (l / 256) v
+  set-is l v has there =
+      let below = numbers-has 0 (values-in s (l / 256)) v there in let most = few .each (l / 256) in so .bits (l / 256) v (near l has) (omega arith)
+
+  pub agreeing-beside : agreeing s sets c ≡ leaves-beside s b c
+  unfolding agreeing leaves-beside values-of
+  agreeing-beside =
+      same-test _ _
+      (λ e. has-each _ c (λ l has.
+      let w = some-has _ (numbers 0 (values-in s (l / 256))) (each-has _ c l e has) in
+      has-some _ (numbers 0 (values-in s (l / 256))) (w .0) (w .1) (both-true _ _ (sym (set-is l (w .0) has (w .1)) ∙ both-left _ _ (w .2)) (both-right _ _ (w .2)))))
+      (λ e. has-each _ c (λ l has.
+      let w = some-has _ (numbers 0 (values-in s (l / 256))) (each-has _ c l e has) in
+      has-some _ (numbers 0 (values-in s (l / 256))) (w .0) (w .1) (both-true _ _ (set-is l (w .0) has (w .1) ∙ both-left _ _ (w .2)) (both-right _ _ (w .2)))))
+
+  pub agreeing-is : each-of (λ (l : ℕ). leaves-one s l c) c ≡ true → agreeing s sets c ≡ fails (exclusive (literals-in s) b c)
+  agreeing-is leaves = agreeing-beside ∙ beside-is s b c leaves

@@ -33,3 +33,12 @@ agreeing s sets c =
     some-of (λ (v : ℕ). both (bit-of (getD sets (literals-in s .fluent l) 0) v) (fits (literals-in s) c (literals-in s .fluent l) v))
     (values-of (literals-in s) (literals-in s .fluent l)))
     c
+
+-- The same of what a list leaves: the literals of the second each leave their fluents a value beside the first (FORMAT 26.23).
+unfoldable pub leaves-beside : (s b c : List ℕ) → Bool
+leaves-beside s b c =
+    each-of
+    (λ (l : ℕ).
+    some-of (λ (v : ℕ). both (fits (literals-in s) b (literals-in s .fluent l) v) (fits (literals-in s) c (literals-in s .fluent l) v))
+    (values-of (literals-in s) (literals-in s .fluent l)))
+    c

@@ -14,6 +14,9 @@ use Rattle.meaning.specs.ByCases.{after-cases, cases-does}
 use Rattle.meaning.specs.Schemes.{narrow-does}
 use Rattle.meaning.proofs.PickLaws.{pick-has}
 use Rattle.meaning.proofs.KeptEnds.{on-places, Outcome-has, End-so, Step-so, meet-so, walk-so, end-of-so, table-does-so, cases-does-so}
+use Rattle.meaning.specs.declared.Form.{Form}
+use Rattle.steps.specs.Held.{plan-in}
+use Rattle.steps.specs.Steps.{step-in, judged-in, missed-as, first-in, walk-held}
 use Rattle.steps.proofs.HeldEnds.{narrow-does-so}
 
 module _ (P : State → Type 0) where
@@ -67,6 +70,24 @@ module _ (P : State → Type 0) where
       let broken : (s : State) → P s → (p : ℕ) → step .lacks s ≡ at p → P s = λ s has _ _. has in
       meet-so _ _ P (λ _. Unit {0}) step keeps stuck broken (walk step (r .plan) (judged r))
       (walk-so _ _ P (λ _. Unit {0}) step keeps stuck broken (r .plan) (on-places (λ _. Unit {0}) (λ _. tt) (r .plan)) (judged r) (λ s has. end-of-so _ _ (missed-in r s) s (λ p _. has)))
+
+  -- Of what is held, in either form.
+  pub held-kept : (form : Form) (s t : List ℕ) → ((a : ℕ) (u : State) → P u → Does-keep (step-in form s t .does a u)) → P (first-in form s) → End-has (walk-held form s t .end)
+  unfolding walk-held judged-in
+  held-kept form s t keeps first =
+      let step = step-in form s t in
+      let stuck : (u : State) → P u → (p : ℕ) → Unit {0} → P u = λ u has _ _. has in
+      let broken : (u : State) → P u → (p : ℕ) → step .lacks u ≡ at p → P u = λ u has _ _. has in
+      meet-so _ _ P (λ _. Unit {0}) step keeps stuck broken (walk step (plan-in form s t) (judged-in form s t))
+      (walk-so _ _ P (λ _. Unit {0}) step keeps stuck broken (plan-in form s t) (on-places (λ _. Unit {0}) (λ _. tt) (plan-in form s t)) (judged-in form s t)
+      (λ u has. end-of-so _ _ (missed-as form s t u) u (λ p _. has))) (first-in form s) first
+
+-- What has the one has the other too, where each state that has the one does.
+pub end-weaker : (P Q : State → Type 0) → ((s : State) → P s → Q s) → (e : End State) → End-has P e → End-has Q e
+end-weaker P Q also fine p = tt
+end-weaker P Q also (missed i s) p = also s p
+end-weaker P Q also (stopped n i no-state) p = tt
+end-weaker P Q also (stopped n i (in-state s)) p = also s p
 
 -- An end that has the one and the other has both.
 pub end-both : (P Q : State → Type 0) (e : End State) → End-has P e → End-has Q e → End-has (λ (s : State). P s × Q s) e

@@ -132,7 +132,7 @@ module _ (s t u : List ℕ) (r : Read) (read : outcome-met r u ≡ opening-noted
       let g = open-got n q is in
       let o = opened format s (g .0) q (g .1) in
       record {
-        here = subst (Table-here s) (sym (g .3 ∙ ap (table-noted (g .0 .table)) empty)) (table-comes s (λ i. bytes i .fits) (o .short) (g .0 .table) (g .0 .table-end) (o .table));
+        here = subst (Table-here Flags s) (sym (g .3 ∙ ap (table-noted (g .0 .table)) empty)) (table-comes Flags s (λ i. bytes i .fits) (o .short) (g .0 .table) (g .0 .table-end) (o .table));
         opens = g .0;
         opened = g .1;
         counts = g .2;
@@ -158,7 +158,7 @@ module _ (s t : List ℕ) (plans start : ℕ) (here : Opened-here s t plans star
       let same = here .counts in
       record { fits = omega arith }
 
-  pub table-there : Table-here s t
+  pub table-there : Table-here Flags s t
   table-there = here .here
 
   pub start-inside : start ≤ length s
@@ -167,10 +167,10 @@ module _ (s t : List ℕ) (plans start : ℕ) (here : Opened-here s t plans star
   pub start-behind : 1 ≤ start
   start-behind = let after = passed-by .behind in omega arith
 
-  same-table : table-in s ≡ here .opens .table
-  same-table = table-is s (here .opens .table) (here .opens .table-end) (passed-by .table)
+  same-table : table-in Flags s ≡ here .opens .table
+  same-table = table-is Flags s (here .opens .table) (here .opens .table-end) (passed-by .table)
 
-  pub ends-there : table-at format Flags s 0 ≡ got (table-in s) (start - 1)
+  pub ends-there : table-at format Flags s 0 ≡ got (table-in Flags s) (start - 1)
   ends-there =
       let after = passed-by .behind in
       let before : start - 1 ≡ here .opens .table-end = omega arith in
@@ -185,8 +185,8 @@ module _ (s t : List ℕ) (plans start : ℕ) (here : Opened-here s t plans star
     unfolding release-opened own-answer
     release-9 other a said = ap (λ (x : Answer). record { answer = x; row = lent }) said ∙ sym (opened-so ∙ pick-false _ _ _ (ne-eqb _ _ (λ e. other (e ∙ ap (λ (k : ℕ). 4 * k) (here .counts)))))
 
-    module _ (sized : length lent ≡ 4 * plans) (first : Passed) (asked : first ≡ passed (table-settled (table-in s) (start - 1))) where
-      settled-so : release format s lent budget ≡ released lent (next (table-settled (table-in s) (start - 1)) (λ _ _. past-table s budget plans start))
+    module _ (sized : length lent ≡ 4 * plans) (first : Passed) (asked : first ≡ passed (table-settled (table-in Flags s) (start - 1))) where
+      settled-so : release format s lent budget ≡ released lent (next (table-settled (table-in Flags s) (start - 1)) (λ _ _. past-table s budget plans start))
       unfolding release-opened settled-plans past-table
       settled-so =
           opened-so
@@ -196,20 +196,20 @@ module _ (s t : List ℕ) (plans start : ℕ) (here : Opened-here s t plans star
 
       pub release-first : (k p : ℕ) → first ≡ Stop k p → (a : Answer) → a ≡ record { number = k; input = 1; place = p; count = 0 } → record { answer = a; row = lent } ≡ release format s lent budget
       unfolding released own-answer next
-      release-first k p stops a said = ap (λ (x : Answer). record { answer = x; row = lent }) said ∙ sym (settled-so ∙ rw (passed-stop (table-settled (table-in s) (start - 1)) k p (sym asked ∙ stops)))
+      release-first k p stops a said = ap (λ (x : Answer). record { answer = x; row = lent }) said ∙ sym (settled-so ∙ rw (passed-stop (table-settled (table-in Flags s) (start - 1)) k p (sym asked ∙ stops)))
 
       module _ (q : ℕ) (goes : first ≡ To q) where
         pub release-then : (a : Answer) (row : List ℕ) → record { answer = a; row = row } ≡ released lent (past-table s budget plans start) → record { answer = a; row = row } ≡ release format s lent budget
         unfolding next
-        release-then a row is = is ∙ sym (settled-so ∙ rw (passed-to (table-settled (table-in s) (start - 1)) q (sym asked ∙ goes) .1))
+        release-then a row is = is ∙ sym (settled-so ∙ rw (passed-to (table-settled (table-in Flags s) (start - 1)) q (sym asked ∙ goes) .1))
 
-        pub clean-there : contradiction-in (table-in s) ≡ nowhere
+        pub clean-there : contradiction-in (table-in Flags s) ≡ nowhere
         unfolding table-settled
-        clean-there = refuse-got _ _ _ (passed-to (table-settled (table-in s) (start - 1)) q (sym asked ∙ goes) .1) .0
+        clean-there = refuse-got _ _ _ (passed-to (table-settled (table-in Flags s) (start - 1)) q (sym asked ∙ goes) .1) .0
 
 -- PAST 16 AND 17.
-module _ (s t : List ℕ) (here : Table-here s t) where
-  front-there : Front Flags s 0 (table-in s)
+module _ (s t : List ℕ) (here : Table-here Flags s t) where
+  front-there : Front Flags s 0 (table-in Flags s)
   front-there = front-here s t here
 
   pub counts-there : (n m : ℕ) → n ≡ getD s 0 0 → m ≡ getD s 1 0 → Counted s n m
@@ -220,30 +220,30 @@ module _ (s t : List ℕ) (here : Table-here s t) where
     actions = second ∙ front-there .actions-are;
   }
 
-module _ (s : List ℕ) (lent : List ℕ) (budget plans start : ℕ) (f : Found) (answer : f ≡ found (byte-after s (plans-at format s (table-in s) plans start))) where
+module _ (s : List ℕ) (lent : List ℕ) (budget plans start : ℕ) (f : Found) (answer : f ≡ found (byte-after s (plans-at format s (table-in Flags s) plans start))) where
   pub file-20 : (p : ℕ) → f ≡ At p → (a : Answer) → a ≡ record { number = 20; input = 1; place = p; count = 0 } → record { answer = a; row = lent } ≡ released lent (past-table s budget plans start)
   unfolding released own-answer past-table refuse
-  file-20 p is a said = rw (said, found-at (byte-after s (plans-at format s (table-in s) plans start)) f answer p is)
+  file-20 p is a said = rw (said, found-at (byte-after s (plans-at format s (table-in Flags s) plans start)) f answer p is)
 
-  pub file-answered : (row : List ℕ) → f ≡ Nowhere → row ≡ rows (answers-at format s (table-in s) budget plans start)
+  pub file-answered : (row : List ℕ) → f ≡ Nowhere → row ≡ rows (answers-at format s (table-in Flags s) budget plans start)
       → (a : Answer) → a ≡ record { number = 0; input = 0; place = 0; count = 0 } → record { answer = a; row = row } ≡ released lent (past-table s budget plans start)
   unfolding released own-answer past-table refuse
-  file-answered row is written a said = rw (said, found-none (byte-after s (plans-at format s (table-in s) plans start)) f answer is, written)
+  file-answered row is written a said = rw (said, found-none (byte-after s (plans-at format s (table-in Flags s) plans start)) f answer is, written)
 
 -- A PLAN THAT IS READ, with whatever is noted before it.
 module _ (s : List ℕ) (n m : ℕ) (counted : Counted s n m) (p : ℕ) (t u : List ℕ) (r : Passed) (read : outcome r u ≡ plan-first Flags n m s p t) where
-  read-so : outcome r u ≡ noting (tail-noted Flags) (request-at format Flags s (table-in s) p) t
-  read-so = read ∙ rw (counted .fluents, counted .actions) (tail-whole Flags s (table-in s) p t)
+  read-so : outcome r u ≡ noting (tail-noted Flags) (request-at format Flags s (table-in Flags s) p) t
+  read-so = read ∙ rw (counted .fluents, counted .actions) (tail-whole Flags s (table-in Flags s) p t)
 
-  plan-got : (e : ℕ) → r ≡ To e → (y : Request) × (request-at format Flags s (table-in s) p ≡ got y e) × (u ≡ tail-noted Flags y t)
-  plan-got e is = noting-got (tail-noted Flags) (request-at format Flags s (table-in s) p) r t u read-so e is
+  plan-got : (e : ℕ) → r ≡ To e → (y : Request) × (request-at format Flags s (table-in Flags s) p ≡ got y e) × (u ≡ tail-noted Flags y t)
+  plan-got e is = noting-got (tail-noted Flags) (request-at format Flags s (table-in Flags s) p) r t u read-so e is
 
-  plan-stop : (k q : ℕ) → r ≡ Stop k q → request-at format Flags s (table-in s) p ≡ fault k q
-  plan-stop k q is = noting-fault (tail-noted Flags) (request-at format Flags s (table-in s) p) r t u read-so k q is
+  plan-stop : (k q : ℕ) → r ≡ Stop k q → request-at format Flags s (table-in Flags s) p ≡ fault k q
+  plan-stop k q is = noting-fault (tail-noted Flags) (request-at format Flags s (table-in Flags s) p) r t u read-so k q is
 
 -- THE FIRST PASS: what is left of the plans ends where all do.
 pub record Seeking (s : List ℕ) (plans start left p : ℕ) : Type 0 where
-  pub same : byte-after s (plans-at format s (table-in s) plans start) ≡ byte-after s (plans-at format s (table-in s) left p)
+  pub same : byte-after s (plans-at format s (table-in Flags s) plans start) ≡ byte-after s (plans-at format s (table-in Flags s) left p)
 
 pub seeking-starts : (s : List ℕ) (plans start : ℕ) → Seeking s plans start plans start
 seeking-starts s plans start = record { same = refl }
@@ -265,55 +265,55 @@ module _ (s : List ℕ) (n m : ℕ) (counted : Counted s n m) (plans start left 
         record {
           same =
               seeks .same
-              ∙ ap (λ (k : ℕ). byte-after s (plans-at format s (table-in s) k p)) one-less
-              ∙ ap (λ (g : Got Request). byte-after s (next g λ x q. next (repeated (request-at format Flags s (table-in s)) (left - 1) q) λ rest i. got (x ∷ rest) i)) (y .1)
-              ∙ behind-plan s (y .0) (repeated (request-at format Flags s (table-in s)) (left - 1) e);
+              ∙ ap (λ (k : ℕ). byte-after s (plans-at format s (table-in Flags s) k p)) one-less
+              ∙ ap (λ (g : Got Request). byte-after s (next g λ x q. next (repeated (request-at format Flags s (table-in Flags s)) (left - 1) q) λ rest i. got (x ∷ rest) i)) (y .1)
+              ∙ behind-plan s (y .0) (repeated (request-at format Flags s (table-in Flags s)) (left - 1) e);
         }
 
-    pub seeking-stops : (k q : ℕ) → r ≡ Stop k q → Nowhere ≡ found (byte-after s (plans-at format s (table-in s) plans start))
+    pub seeking-stops : (k q : ℕ) → r ≡ Stop k q → Nowhere ≡ found (byte-after s (plans-at format s (table-in Flags s) plans start))
     unfolding plans-at repeated next byte-after found
     seeking-stops k q is =
         sym (ap found (seeks .same
-        ∙ ap (λ (i : ℕ). byte-after s (plans-at format s (table-in s) i p)) one-less
-        ∙ ap (λ (g : Got Request). byte-after s (next g λ x i. next (repeated (request-at format Flags s (table-in s)) (left - 1) i) λ rest j. got (x ∷ rest) j)) (plan-stop s n m counted p t u r read k q is)))
+        ∙ ap (λ (i : ℕ). byte-after s (plans-at format s (table-in Flags s) i p)) one-less
+        ∙ ap (λ (g : Got Request). byte-after s (next g λ x i. next (repeated (request-at format Flags s (table-in Flags s)) (left - 1) i) λ rest j. got (x ∷ rest) j)) (plan-stop s n m counted p t u r read k q is)))
 
   module _ (none : left ≤ 0) where
-    all-read : byte-after s (plans-at format s (table-in s) plans start) ≡ pick (ltb p (length s)) (λ _. at p) (λ _. nowhere)
+    all-read : byte-after s (plans-at format s (table-in Flags s) plans start) ≡ pick (ltb p (length s)) (λ _. at p) (λ _. nowhere)
     unfolding plans-at repeated byte-after
-    all-read = let zero-left : left ≡ 0 = omega arith in seeks .same ∙ ap (λ (k : ℕ). byte-after s (plans-at format s (table-in s) k p)) zero-left
+    all-read = let zero-left : left ≡ 0 = omega arith in seeks .same ∙ ap (λ (k : ℕ). byte-after s (plans-at format s (table-in Flags s) k p)) zero-left
 
-    pub seeking-more : p < length s → At p ≡ found (byte-after s (plans-at format s (table-in s) plans start))
+    pub seeking-more : p < length s → At p ≡ found (byte-after s (plans-at format s (table-in Flags s) plans start))
     unfolding found
     seeking-more more = sym (ap found (all-read ∙ pick-true _ _ _ (lt-ltb _ _ more)))
 
-    pub seeking-none : length s ≤ p → Nowhere ≡ found (byte-after s (plans-at format s (table-in s) plans start))
+    pub seeking-none : length s ≤ p → Nowhere ≡ found (byte-after s (plans-at format s (table-in Flags s) plans start))
     unfolding found
     seeking-none over = sym (ap found (all-read ∙ pick-false _ _ _ (le-ltb _ _ over)))
 
 -- ONE PLAN at hand. The lent state does not matter to the answer.
-module _ (s t : List ℕ) (here : At-hand s t) (items : ℕ) (is : items ≡ getD t items-slot 0) where
-  counts-items : items-of (plan-in s t) ≡ items
+module _ (s t : List ℕ) (here : At-hand Flags s t) (items : ℕ) (is : items ≡ getD t items-slot 0) where
+  counts-items : items-of (plan-in Flags s t) ≡ items
   counts-items = sym (is ∙ items-are s t here)
 
-  pub plan-there : Some-plan s t items
-  plan-there = record { plan = plan-in s t; held = here .held; items = counts-items }
+  pub plan-there : Some-plan Flags s t items
+  plan-there = record { plan = plan-in Flags s t; held = here .held; items = counts-items }
 
-  module _ (f : Found) (answer : Overlap-found s t items f) (budget : ℕ) where
-    overlap-is : f ≡ found (overlap-in (plan-in s t))
-    overlap-is = answer .holds (plan-in s t) (here .held) counts-items
+  module _ (f : Found) (answer : Overlap-found Flags s t items f) (budget : ℕ) where
+    overlap-is : f ≡ found (overlap-in (plan-in Flags s t))
+    overlap-is = answer .holds (plan-in Flags s t) (here .held) counts-items
 
-    pub plan-18 : (p : ℕ) → f ≡ At p → (a : Answer) → a ≡ record { number = 18; input = 1; place = p; count = 0 } → a ≡ plan-answer format budget (got (request-in s t) 0)
+    pub plan-18 : (p : ℕ) → f ≡ At p → (a : Answer) → a ≡ record { number = 18; input = 1; place = p; count = 0 } → a ≡ plan-answer format budget (got (request-in Flags s t) 0)
     unfolding plan-answer judge-got next refuse request-in
-    plan-18 p met a said = said ∙ sym (ap (λ (g : Refusals.Found). judge-settled format [] budget (refuse 18 g (λ _. got (request-in s t) 0)) .answer) (found-at (overlap-in (plan-in s t)) f overlap-is p met))
+    plan-18 p met a said = said ∙ sym (ap (λ (g : Refusals.Found). judge-settled format [] budget (refuse 18 g (λ _. got (request-in Flags s t) 0)) .answer) (found-at (overlap-in (plan-in Flags s t)) f overlap-is p met))
 
-    pub plan-walked : f ≡ Nowhere → (lent left : List ℕ) (a : Answer) → record { answer = a; state = left } ≡ within lent budget (walk-held s t)
-        → guards-in s t ≡ [] → mode-in t ≡ 0 → a ≡ plan-answer format budget (got (request-in s t) 0)
+    pub plan-walked : f ≡ Nowhere → (lent left : List ℕ) (a : Answer) → record { answer = a; state = left } ≡ within lent budget (walk-held Flags s t)
+        → guards-in s t ≡ [] → mode-in t ≡ 0 → a ≡ plan-answer format budget (got (request-in Flags s t) 0)
     unfolding plan-answer judge-got next refuse request-in
     plan-walked none lent left a walks unguarded known =
         ap (λ (j : Judgement). j .answer) walks
-        ∙ within-unread lent [] budget (walk-held s t)
+        ∙ within-unread lent [] budget (walk-held Flags s t)
         ∙ ap (λ (w : Walked State). within [] budget w .answer) (held-plain s t known unguarded)
-        ∙ sym (ap (λ (g : Refusals.Found). judge-settled format [] budget (refuse 18 g (λ _. got (request-in s t) 0)) .answer) (found-none (overlap-in (plan-in s t)) f overlap-is none))
+        ∙ sym (ap (λ (g : Refusals.Found). judge-settled format [] budget (refuse 18 g (λ _. got (request-in Flags s t) 0)) .answer) (found-none (overlap-in (plan-in Flags s t)) f overlap-is none))
 
 -- THE ROW, from the left.
 module _ (row : List ℕ) (k : ℕ) (room : 4 * k + 4 ≤ length row) where
@@ -387,19 +387,19 @@ module _ (all row : List ℕ) (plans i : ℕ) (leaves : Leaving all row plans i)
 
 -- THE SECOND PASS.
 pub record Answering (s t row : List ℕ) (budget plans start k p : ℕ) : Type 0 where
-  pub here : Table-here s t
+  pub here : Table-here Flags s t
   pub few : k ≤ plans
   pub inside : p ≤ length s
   pub sized : length row ≡ 4 * plans
-  pub so-far : rows (answers-at format s (table-in s) budget plans start) ≡ take (4 * k) row ++ rows (answers-at format s (table-in s) budget (plans - k) p)
+  pub so-far : rows (answers-at format s (table-in Flags s) budget plans start) ≡ take (4 * k) row ++ rows (answers-at format s (table-in Flags s) budget (plans - k) p)
 
-pub answering-starts : (s t row : List ℕ) (budget plans start : ℕ) → Table-here s t → start ≤ length s → length row ≡ 4 * plans → Answering s t row budget plans start 0 start
+pub answering-starts : (s t row : List ℕ) (budget plans start : ℕ) → Table-here Flags s t → start ≤ length s → length row ≡ 4 * plans → Answering s t row budget plans start 0 start
 answering-starts s t row budget plans start here inside sized = record {
   here = here;
   few = omega arith;
   inside = inside;
   sized = sized;
-  so-far = let all : plans ≡ plans - 0 = omega arith in ap (λ (i : ℕ). rows (answers-at format s (table-in s) budget i start)) all;
+  so-far = let all : plans ≡ plans - 0 = omega arith in ap (λ (i : ℕ). rows (answers-at format s (table-in Flags s) budget i start)) all;
 }
 
 -- Where a plan ends does not matter to its answer.
@@ -421,20 +421,20 @@ module _ (s t row : List ℕ) (budget plans start k p : ℕ) (answers : Answerin
   one-more = omega arith
 
   -- What is left begins with this plan.
-  this-first : rows (answers-at format s (table-in s) budget plans start)
-      ≡ take (4 * k) row ++ rows (plan-answer format budget (request-at format Flags s (table-in s) p) ∷ after-plan (plans - (k + 1)) (request-at format Flags s (table-in s) p) (λ e. answers-at format s (table-in s) budget (plans - (k + 1)) e))
+  this-first : rows (answers-at format s (table-in Flags s) budget plans start)
+      ≡ take (4 * k) row ++ rows (plan-answer format budget (request-at format Flags s (table-in Flags s) p) ∷ after-plan (plans - (k + 1)) (request-at format Flags s (table-in Flags s) p) (λ e. answers-at format s (table-in Flags s) budget (plans - (k + 1)) e))
   unfolding answers-at
-  this-first = answers .so-far ∙ ap (λ (i : ℕ). take (4 * k) row ++ rows (answers-at format s (table-in s) budget i p)) one-more
+  this-first = answers .so-far ∙ ap (λ (i : ℕ). take (4 * k) row ++ rows (answers-at format s (table-in Flags s) budget i p)) one-more
 
-  answer-inside : plan-answer format budget (request-at format Flags s (table-in s) p) .place ≤ length s
-  answer-inside = answer-placed format s (table-in s) budget (table-below format s (table-in s) (answers .here .table-end) (answers .here .table)) p (answers .inside)
+  answer-inside : plan-answer format budget (request-at format Flags s (table-in Flags s) p) .place ≤ length s
+  answer-inside = answer-placed format s (table-in Flags s) budget (table-below format s (table-in Flags s) (answers .here .table-end) (answers .here .table)) p (answers .inside)
 
   module _ (e : ℕ) (is : r ≡ To e) where
-    y : (y : Request) × (request-at format Flags s (table-in s) p ≡ got y e) × (u ≡ tail-noted Flags y t)
+    y : (y : Request) × (request-at format Flags s (table-in Flags s) p ≡ got y e) × (u ≡ tail-noted Flags y t)
     y = plan-got s n m counted p t u r read e is
 
-    pub answering-hand : contradiction-in (table-in s) ≡ nowhere → At-hand s u
-    answering-hand clean = subst (At-hand s) (sym (y .2)) (plan-at-hand s t (answers .here) 0 p (y .0) e (y .1) clean (λ some. clash (eq-eqb 0 0 refl) some))
+    pub answering-hand : contradiction-in (table-in Flags s) ≡ nowhere → At-hand Flags s u
+    answering-hand clean = subst (At-hand Flags s) (sym (y .2)) (plan-at-hand s t (answers .here) 0 p (y .0) e (y .1) clean (λ some. clash (eq-eqb 0 0 refl) some))
 
     pub answering-unguarded : guards-in s u ≡ []
     answering-unguarded = ap (guards-in s) (y .2) ∙ plan-unguarded s t (answers .here) p (y .0) e (y .1)
@@ -443,37 +443,37 @@ module _ (s t row : List ℕ) (budget plans start k p : ℕ) (answers : Answerin
     pub answering-known : mode-in u ≡ 0
     answering-known = ap mode-in (y .2) ∙ table-mode s (tail-noted Flags (y .0) t) (table-stays s t (answers .here) 0 p (y .0) e (y .1))
 
-    held-is : request-in s u ≡ y .0
-    held-is = ap (request-in s) (y .2) ∙ plan-request s t (answers .here) 0 p (y .0) e (y .1)
+    held-is : request-in Flags s u ≡ y .0
+    held-is = ap (request-in Flags s) (y .2) ∙ plan-request s t (answers .here) 0 p (y .0) e (y .1)
 
-    module _ (a : Answer) (given : a ≡ plan-answer format budget (got (request-in s u) 0)) where
-      answer-is : a ≡ plan-answer format budget (request-at format Flags s (table-in s) p)
+    module _ (a : Answer) (given : a ≡ plan-answer format budget (got (request-in Flags s u) 0)) where
+      answer-is : a ≡ plan-answer format budget (request-at format Flags s (table-in Flags s) p)
       answer-is = given ∙ ap (λ (x : Request). plan-answer format budget (got x 0)) held-is ∙ sym (ap (plan-answer format budget) (y .1) ∙ answer-anywhere (y .0) budget e)
 
       pub answering-small : a .place < 65536
       answering-small =
           let inside = answer-inside in
-          let same : a .place ≡ plan-answer format budget (request-at format Flags s (table-in s) p) .place = ap (λ (x : Answer). x .place) answer-is in
+          let same : a .place ≡ plan-answer format budget (request-at format Flags s (table-in Flags s) p) .place = ap (λ (x : Answer). x .place) answer-is in
           let short = answers .here .short in
           omega arith
 
       pub answering-next : (left : List ℕ) → left ≡ with-answer row k a → Answering s u left budget plans start (k + 1) e
       unfolding after-plan
       answering-next left written = record {
-        here = subst (Table-here s) (sym (y .2)) (table-stays s t (answers .here) 0 p (y .0) e (y .1));
+        here = subst (Table-here Flags s) (sym (y .2)) (table-stays s t (answers .here) 0 p (y .0) e (y .1));
         few = omega arith;
-        inside = plan-inside format s (table-in s) budget (table-below format s (table-in s) (answers .here .table-end) (answers .here .table)) p (answers .inside) (y .0) e (y .1);
+        inside = plan-inside format s (table-in Flags s) budget (table-below format s (table-in Flags s) (answers .here .table-end) (answers .here .table)) p (answers .inside) (y .0) e (y .1);
         sized = rw written (put-long row k a ∙ answers .sized);
         so-far =
             this-first
-            ∙ ap (λ (x : Answer). take (4 * k) row ++ rows (x ∷ after-plan (plans - (k + 1)) (request-at format Flags s (table-in s) p) (λ e. answers-at format s (table-in s) budget (plans - (k + 1)) e))) (sym answer-is)
-            ∙ ap (λ (g : Got Request). take (4 * k) row ++ rows (a ∷ after-plan (plans - (k + 1)) g (λ e. answers-at format s (table-in s) budget (plans - (k + 1)) e))) (y .1)
-            ∙ put-next row k a (answers-at format s (table-in s) budget (plans - (k + 1)) e) answering-room
-            ∙ ap (λ (xs : List ℕ). take (4 * (k + 1)) xs ++ rows (answers-at format s (table-in s) budget (plans - (k + 1)) e)) (sym written);
+            ∙ ap (λ (x : Answer). take (4 * k) row ++ rows (x ∷ after-plan (plans - (k + 1)) (request-at format Flags s (table-in Flags s) p) (λ e. answers-at format s (table-in Flags s) budget (plans - (k + 1)) e))) (sym answer-is)
+            ∙ ap (λ (g : Got Request). take (4 * k) row ++ rows (a ∷ after-plan (plans - (k + 1)) g (λ e. answers-at format s (table-in Flags s) budget (plans - (k + 1)) e))) (y .1)
+            ∙ put-next row k a (answers-at format s (table-in Flags s) budget (plans - (k + 1)) e) answering-room
+            ∙ ap (λ (xs : List ℕ). take (4 * (k + 1)) xs ++ rows (answers-at format s (table-in Flags s) budget (plans - (k + 1)) e)) (sym written);
       }
 
   module _ (number q : ℕ) (is : r ≡ Stop number q) where
-    fails-there : request-at format Flags s (table-in s) p ≡ fault number q
+    fails-there : request-at format Flags s (table-in Flags s) p ≡ fault number q
     fails-there = plan-stop s n m counted p t u r read number q is
 
     pub answering-fault : (a : Answer) → a ≡ record { number = number; input = 1; place = q; count = 0 } → a .place < 65536
@@ -481,7 +481,7 @@ module _ (s t row : List ℕ) (budget plans start k p : ℕ) (answers : Answerin
     answering-fault a said =
         let at : a .place ≡ q = ap (λ (x : Answer). x .place) said in
         let inside = answer-inside in
-        let same : plan-answer format budget (request-at format Flags s (table-in s) p) .place ≡ q = ap (λ (g : Got Request). plan-answer format budget g .place) fails-there in
+        let same : plan-answer format budget (request-at format Flags s (table-in Flags s) p) .place ≡ q = ap (λ (g : Got Request). plan-answer format budget g .place) fails-there in
         let short = answers .here .short in
         omega arith
 
@@ -495,19 +495,19 @@ module _ (s t row : List ℕ) (budget plans start k p : ℕ) (answers : Answerin
       pub answering-sized : length left ≡ 4 * plans
       answering-sized = rw put (put-long row k a ∙ answers .sized)
 
-      pub answering-stops : (last : List ℕ) → last ≡ with-unreached left (k + 1) plans → last ≡ rows (answers-at format s (table-in s) budget plans start)
+      pub answering-stops : (last : List ℕ) → last ≡ with-unreached left (k + 1) plans → last ≡ rows (answers-at format s (table-in Flags s) budget plans start)
       unfolding with-unreached plan-answer next judge-got after-plan
       answering-stops last rest =
           rest
           ∙ ap (λ (xs : List ℕ). take (4 * (k + 1)) xs ++ rows (replicate (plans - (k + 1)) unreached)) written
           ∙ sym (put-next row k (record { number = number; input = 1; place = q; count = 0 }) (replicate (plans - (k + 1)) unreached) answering-room)
-          ∙ sym (this-first ∙ ap (λ (g : Got Request). take (4 * k) row ++ rows (plan-answer format budget g ∷ after-plan (plans - (k + 1)) g (λ e. answers-at format s (table-in s) budget (plans - (k + 1)) e))) fails-there)
+          ∙ sym (this-first ∙ ap (λ (g : Got Request). take (4 * k) row ++ rows (plan-answer format budget g ∷ after-plan (plans - (k + 1)) g (λ e. answers-at format s (table-in Flags s) budget (plans - (k + 1)) e))) fails-there)
 
 module _ (s t row : List ℕ) (budget plans start k p : ℕ) (answers : Answering s t row budget plans start k p) where
-  pub answering-done : plans ≤ k → row ≡ rows (answers-at format s (table-in s) budget plans start)
+  pub answering-done : plans ≤ k → row ≡ rows (answers-at format s (table-in Flags s) budget plans start)
   unfolding answers-at rows
   answering-done over =
       let sized = answers .sized in
       let few = answers .few in
       let none : plans - k ≡ 0 = omega arith in
-      sym (answers .so-far ∙ ap (λ (i : ℕ). take (4 * k) row ++ rows (answers-at format s (table-in s) budget i p)) none ∙ append-nil (take (4 * k) row) ∙ take-all (4 * k) row (omega arith))
+      sym (answers .so-far ∙ ap (λ (i : ℕ). take (4 * k) row ++ rows (answers-at format s (table-in Flags s) budget i p)) none ∙ append-nil (take (4 * k) row) ∙ take-all (4 * k) row (omega arith))

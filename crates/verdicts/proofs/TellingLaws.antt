@@ -14,10 +14,9 @@ use Rattle.meaning.specs.Tests.{either}
 use Rattle.meaning.specs.Limits.{format}
 use Rattle.meaning.specs.Judging.{written-over, reported, count-told, ended}
 use Rattle.meaning.proofs.TestLaws.{by-test}
-use Rattle.steps.specs.AtHand.{Marked}
 use Rattle.walking.specs.Standing.{stateless, standing, tally-slots}
 use Rattle.walking.proofs.StandingLaws.{stateless-not, stands-spent, stands-fine, stands-missed, stands-stateless, stands-stopped}
-use Rattle.verdicts.specs.Telling.{told, Tallied}
+use Rattle.verdicts.specs.Telling.{told, Byte-marks, Tallied}
 
 -- HANDED OVER below fluent f.
 pub record Handing (tally state : List ℕ) (f : ℕ) : Type 0 where
@@ -28,7 +27,7 @@ pub record Handing (tally state : List ℕ) (f : ℕ) : Type 0 where
 pub handing-starts : (tally state : List ℕ) → length state ≡ format .state → Handing tally state 0
 handing-starts tally state sized = record { sized = sized; few = omega arith; done = λ j h. absurd (omega arith) }
 
-pub mark-small : (tally : List ℕ) (f : ℕ) → Marked (drop 3 tally) → getD tally (3 + f) 0 < 256
+pub mark-small : (tally : List ℕ) (f : ℕ) → Byte-marks (drop 3 tally) → getD tally (3 + f) 0 < 256
 mark-small tally f marked = let small = marked .small f in let same = getD-drop 3 tally f 0 in omega (arith, small, same)
 
 module _ (tally state : List ℕ) (f : ℕ) (handing : Handing tally state f) where
@@ -86,7 +85,7 @@ module _ (tally lent : List ℕ) (budget : ℕ) (tallied : Tallied tally budget)
       stated : stateless (getD tally 0 0) ≡ false
       stated = stateless-not (getD tally 0 0) (ne-eqb _ 37 wide) (ne-eqb _ 44 many)
 
-      pub state-marked : Marked (drop 3 tally)
+      pub state-marked : Byte-marks (drop 3 tally)
       state-marked = tallied .marked going some stated
 
       pub tell-reported : (number place : ℕ) (state : List ℕ) → number ≡ getD tally 0 0 → place ≡ getD tally 1 0 → state ≡ drop 3 tally

@@ -15,6 +15,7 @@ ghost use Rattle.steps.specs.Held.{guards-in, request-in};
 ghost use Rattle.steps.specs.AtHand.{At-hand};
 ghost use Rattle.steps.specs.Steps.{mode-in};
 ghost use Rattle.verdicts.specs.Releasing.{opening-noted, Counted, Opened-here, with-answer, with-unreached, past-table};
+ghost use Rattle.meaning.specs.declared.Form.the-variants.{Flags};
 use super::answers;
 use super::answers::uncounted;
 use super::walked::walk_plan;
@@ -53,7 +54,7 @@ fn open_file(file: &[u8], t: &mut Notes) -> Read
 // The first byte after the last of the plans that start at a place, where every plan is read and there is one. What the plans leave in the notes here nobody asks for.
 fn byte_after(n: usize, m: usize, file: &[u8], plans: usize, start: usize) -> Found
     requires { ⌜ Counted (now file) n m ⌝ }
-    ensures { λ r. ⌜ r ≡ found (byte-after (now (file .entry)) (plans-at format (now (file .entry)) (table-in (now (file .entry))) plans start)) ⌝ }
+    ensures { λ r. ⌜ r ≡ found (byte-after (now (file .entry)) (plans-at format (now (file .entry)) (table-in Flags (now (file .entry))) plans start)) ⌝ }
 {
     let mut t: Notes = [0u16; notes::SLOTS];
     let mut left = plans;
@@ -77,13 +78,13 @@ fn byte_after(n: usize, m: usize, file: &[u8], plans: usize, start: usize) -> Fo
 
 // What the walk call answers of the plan at hand: 18, or how its walk ended. The state concerned is handed to nobody.
 fn answer_plan(file: &[u8], t: &Notes, budget: u32) -> Answer
-    requires { ⌜ At-hand (now file) (now t) ⌝ }
+    requires { ⌜ At-hand Flags (now file) (now t) ⌝ }
     requires { ⌜ guards-in (now file) (now t) ≡ [] ⌝ }
     requires { ⌜ mode-in (now t) ≡ 0 ⌝ }
-    ensures { λ r. ⌜ r ≡ plan-answer format budget (got (request-in (now (file .entry)) (now (t .entry))) 0) ⌝ }
+    ensures { λ r. ⌜ r ≡ plan-answer format budget (got (request-in Flags (now (file .entry)) (now (t .entry))) 0) ⌝ }
 {
     let items = get(t, notes::ITEMS);
-    match overlap(file, t, items) {
+    match overlap(Form::Flags, file, t, items) {
         Found::Nowhere => {
             let mut state = [0u8; limits::FLUENTS];
             walk_plan(file, t, &mut state, budget)
@@ -134,11 +135,11 @@ fn answer_plans(
     start: usize,
 )
     requires { ⌜ Counted (now file) n m ⌝ }
-    requires { ⌜ Table-here (now file) (now t) ⌝ }
-    requires { ⌜ contradiction-in (table-in (now file)) ≡ nowhere ⌝ }
+    requires { ⌜ Table-here Flags (now file) (now t) ⌝ }
+    requires { ⌜ contradiction-in (table-in Flags (now file)) ≡ nowhere ⌝ }
     requires { ⌜ start ≤ length (now file) ⌝ }
     requires { ⌜ length (now row) ≡ 4 * plans ⌝ }
-    ensures { λ _. ⌜ now (row .exit) ≡ rows (answers-at format (now (file .entry)) (table-in (now (file .entry))) budget plans start) ⌝ }
+    ensures { λ _. ⌜ now (row .exit) ≡ rows (answers-at format (now (file .entry)) (table-in Flags (now (file .entry))) budget plans start) ⌝ }
 {
     let mut k = 0;
     let mut p = start;
@@ -168,8 +169,8 @@ fn answer_file(
     plans: usize,
     start: usize,
 ) -> Answer
-    requires { ⌜ Table-here (now file) (now t) ⌝ }
-    requires { ⌜ contradiction-in (table-in (now file)) ≡ nowhere ⌝ }
+    requires { ⌜ Table-here Flags (now file) (now t) ⌝ }
+    requires { ⌜ contradiction-in (table-in Flags (now file)) ≡ nowhere ⌝ }
     requires { ⌜ start ≤ length (now file) ⌝ }
     requires { ⌜ length (now row) ≡ 4 * plans ⌝ }
     ensures { λ r. ⌜ record { answer = r; row = now (row .exit) } ≡ released (now (row .entry)) (past-table (now (file .entry)) budget plans start) ⌝ }
@@ -200,7 +201,7 @@ fn release_opened(
     if row.len() != ROW_NUMBERS * plans {
         return uncounted(answers::STATE_LENGTH, answers::NEITHER_INPUT, 0);
     }
-    match table_refused(file, t, start - 1) {
+    match table_refused(Form::Flags, file, t, start - 1) {
         Passed::To(_) => answer_file(file, t, row, budget, plans, start),
         Passed::Fault(k, p) => uncounted(k, answers::THE_REQUEST, p),
     }

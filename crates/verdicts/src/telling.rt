@@ -2,9 +2,8 @@ ghost use mathlib.Core.Path.{_≡_};
 ghost use Prim.Native.Nat.{_<_};
 ghost use lib.ListN.{length, drop};
 ghost use Rattle.meaning.specs.Limits.{format};
-ghost use Rattle.steps.specs.AtHand.{Marked};
 ghost use Rattle.walking.specs.Standing.{standing, tally-slots};
-ghost use Rattle.verdicts.specs.Telling.{told, Tallied};
+ghost use Rattle.verdicts.specs.Telling.{told, Byte-marks, Tallied};
 use super::answers;
 use super::answers::uncounted;
 use bytes::limits;
@@ -32,7 +31,7 @@ fn byte_of(x: u32) -> u8
 fn hand_over(tally: &Tally, state: &mut [u8])
     requires { ⌜ length (now state) ≡ format .state ⌝ }
     requires { ⌜ length (now tally) ≡ tally-slots ⌝ }
-    requires { ⌜ Marked (drop 3 (now tally)) ⌝ }
+    requires { ⌜ Byte-marks (drop 3 (now tally)) ⌝ }
     ensures { λ _. ⌜ now (state .exit) ≡ drop 3 (now (tally .entry)) ⌝ }
 {
     let mut f = 0;

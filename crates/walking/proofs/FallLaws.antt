@@ -9,10 +9,10 @@ use Rattle.meaning.specs.States.{State}
 use Rattle.finding.specs.declared.places.Found.{Found}
 use Rattle.finding.specs.declared.places.Found.the-variants.{At}
 use Rattle.steps.specs.Held.{plan-in}
-use Rattle.steps.specs.AtHand.{Marked}
 use Rattle.steps.specs.Rests.{Position}
-use Rattle.steps.specs.Steps.{Followed, Chosen}
-use Rattle.walking.specs.Walks.{action-at}
+use Rattle.steps.specs.Steps.{form-in, Followed, Chosen}
+use Rattle.walking.specs.Walks.{Fit, action-at}
+use Rattle.walking.proofs.FitLaws.{fit-sized}
 
 -- A fork calls the fork of a higher fluent, or the walk of what follows.
 -- What falls: the items left, and among calls at one item the fluents left.
@@ -28,7 +28,7 @@ fork-measure i f = (format .items - i) * (format .fluents + 1) + (format .fluent
 pub fork-falls : (i f g μ : ℕ) → fork-measure i f ≡ μ → f < g → g < format .fluents → fork-measure i g < μ
 fork-falls i f g μ is rises near = omega arith
 
-pub fork-walk-falls : (s t : List ℕ) (i f r μ : ℕ) → fork-measure i f ≡ μ → f < format .fluents → Followed s t i r → walk-measure r < μ
+pub fork-walk-falls : (s t : List ℕ) (i f r μ : ℕ) → fork-measure i f ≡ μ → f < format .fluents → Followed (form-in t) s t i r → walk-measure r < μ
 fork-walk-falls s t i f r μ is small follows = let h = follows .later in omega arith
 
 -- The walk from a position calls what walks an item from there on.
@@ -38,21 +38,21 @@ walk-branching-falls start i μ is later near = omega arith
 pub walk-fork-falls : (start i f μ : ℕ) → walk-measure start ≡ μ → start ≤ i → i < format .items → fork-measure i f < μ
 walk-fork-falls start i f μ is later near = omega arith
 
-pub branching-walk-falls : (s t : List ℕ) (i : ℕ) (marks : State) (f : Found) (q μ : ℕ) → branching-measure i ≡ μ → Chosen s t i marks f → f ≡ At q → walk-measure q < μ
+pub branching-walk-falls : (s t : List ℕ) (i : ℕ) (marks : State) (f : Found) (q μ : ℕ) → branching-measure i ≡ μ → Chosen (form-in t) s t i marks f → f ≡ At q → walk-measure q < μ
 branching-walk-falls s t i marks f q μ is chosen taken = let h = chosen .later q taken in omega arith
 
-pub follow-falls : (s t : List ℕ) (i r : ℕ) → Followed s t i r → i < format .items → format .items - r < format .items - i
+pub follow-falls : (s t : List ℕ) (i r : ℕ) → Followed (form-in t) s t i r → i < format .items → format .items - r < format .items - i
 follow-falls s t i r follows near = let h = follows .later in omega arith
 
 -- What the calls require.
-pub followed-position : (s t : List ℕ) (i r : ℕ) → Followed s t i r → Position (plan-in s t) r
+pub followed-position : (s t : List ℕ) (i r : ℕ) → Followed (form-in t) s t i r → Position (plan-in (form-in t) s t) r
 followed-position s t i r follows = follows .at
 
-pub chosen-position : (s t : List ℕ) (i : ℕ) (marks : State) (f : Found) (q : ℕ) → Chosen s t i marks f → f ≡ At q → Position (plan-in s t) q
+pub chosen-position : (s t : List ℕ) (i : ℕ) (marks : State) (f : Found) (q : ℕ) → Chosen (form-in t) s t i marks f → f ≡ At q → Position (plan-in (form-in t) s t) q
 chosen-position s t i marks f q chosen taken = chosen .at q taken
 
-pub marked-sized : (marks : State) → Marked marks → length marks ≡ format .state
-marked-sized marks marked = marked .sized
+pub marked-sized : (s t : List ℕ) (marks : State) → Fit s t marks → length marks ≡ format .state
+marked-sized s t marks marked = fit-sized s t marks marked
 
 pub opens-branching : (s t : List ℕ) (i : ℕ) → action-at s t i ≡ 255 → getD s (getD t (0 + i) 0) 0 ≡ 255
 unfolding action-at

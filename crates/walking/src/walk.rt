@@ -1,15 +1,27 @@
 ghost use mathlib.Core.Path.{_≡_};
 ghost use Prim.Native.Nat.{_<_};
+ghost use lib.ListN.{getD};
+ghost use lib.Dec.{ltb};
+ghost use Rattle.meaning.specs.Tests.{both};
 ghost use Rattle.meaning.specs.Limits.{format};
 ghost use Rattle.meaning.specs.Refusals.{nowhere};
-ghost use Rattle.meaning.specs.Walk.{judged};
 ghost use Rattle.reading.specs.Planned.{items-of};
-ghost use Rattle.steps.specs.Held.{plan-in, request-in};
-ghost use Rattle.steps.specs.AtHand.{At-hand, Marked};
+ghost use Rattle.steps.specs.Held.{plan-in};
+ghost use Rattle.steps.specs.AtHand.{At-hand};
 ghost use Rattle.steps.specs.Rests.{Position};
-ghost use Rattle.steps.specs.Steps.{step-in, walk-from, met-from};
+ghost use Rattle.steps.specs.Steps.{form-in, values-as, step-in, judged-in, walk-from, met-from};
 ghost use Rattle.walking.specs.Standing.{add, standing, Going, Breaks};
-ghost use Rattle.walking.specs.Walks.{action-at, fork-from};
+ghost use Rattle.walking.specs.Walks.{Fit, action-at, fork-from};
+use super::asked::after;
+use super::asked::chosen;
+use super::asked::first_unknown;
+use super::asked::follow;
+use super::asked::is_sensing;
+use super::asked::lacking;
+use super::asked::missed;
+use super::asked::next_unknown;
+use super::asked::tried;
+use super::asked::values_of;
 use super::tally;
 use super::tally::Tally;
 use super::tally::count_one;
@@ -24,23 +36,14 @@ use reading::notes;
 use reading::notes::Notes;
 use reading::notes::get;
 use steps::cases::Tried;
-use steps::goals::lacking;
-use steps::goals::missed;
-use steps::onward::chosen;
-use steps::onward::follow;
-use steps::sensing::first_unknown;
-use steps::sensing::is_sensing;
-use steps::sensing::next_unknown;
-use steps::trying::after;
 use steps::trying::refused;
-use steps::trying::tried;
 
 // A state that is met: whether it lacks a guard, which stops the walk.
 fn breaks(s: &[u8], t: &Notes, marks: &Marks, tally: &mut Tally) -> bool
-    requires { ⌜ At-hand (now s) (now t) ⌝ }
-    requires { ⌜ Marked (now marks) ⌝ }
+    requires { ⌜ At-hand (form-in (now t)) (now s) (now t) ⌝ }
+    requires { ⌜ Fit (now s) (now t) (now marks) ⌝ }
     requires { ⌜ Going (now tally) ⌝ }
-    ensures { λ r. ⌜ Breaks (step-in (now (s .entry)) (now (t .entry)) .lacks (now (marks .entry))) (now (marks .entry)) (now (tally .entry)) r (now (tally .exit)) ⌝ }
+    ensures { λ r. ⌜ Breaks (step-in (form-in (now (t .entry))) (now (s .entry)) (now (t .entry)) .lacks (now (marks .entry))) (now (marks .entry)) (now (tally .entry)) r (now (tally .exit)) ⌝ }
 {
     match lacking(s, t, marks) {
         Found::At(p) => {
@@ -53,10 +56,10 @@ fn breaks(s: &[u8], t: &Notes, marks: &Marks, tally: &mut Tally) -> bool
 
 // An end state is judged.
 fn judge_end(s: &[u8], t: &Notes, marks: &Marks, tally: &mut Tally)
-    requires { ⌜ At-hand (now s) (now t) ⌝ }
-    requires { ⌜ Marked (now marks) ⌝ }
+    requires { ⌜ At-hand (form-in (now t)) (now s) (now t) ⌝ }
+    requires { ⌜ Fit (now s) (now t) (now marks) ⌝ }
     requires { ⌜ Going (now tally) ⌝ }
-    ensures { λ _. ⌜ standing (now (tally .exit)) ≡ add (standing (now (tally .entry))) (judged (request-in (now (s .entry)) (now (t .entry))) (now (marks .entry))) ⌝ }
+    ensures { λ _. ⌜ standing (now (tally .exit)) ≡ add (standing (now (tally .entry))) (judged-in (form-in (now (t .entry))) (now (s .entry)) (now (t .entry)) (now (marks .entry))) ⌝ }
 {
     count_one(tally);
     if tally[0] == 0 {
@@ -74,11 +77,11 @@ fn judge_end(s: &[u8], t: &Notes, marks: &Marks, tally: &mut Tally)
 
 // The plan from a position on, from a state that is met.
 pub fn walk(s: &[u8], t: &Notes, at: usize, marks: Marks, tally: &mut Tally)
-    requires { ⌜ At-hand (now s) (now t) ⌝ }
-    requires { ⌜ Position (plan-in (now s) (now t)) at ⌝ }
-    requires { ⌜ Marked marks ⌝ }
+    requires { ⌜ At-hand (form-in (now t)) (now s) (now t) ⌝ }
+    requires { ⌜ Position (plan-in (form-in (now t)) (now s) (now t)) at ⌝ }
+    requires { ⌜ Fit (now s) (now t) marks ⌝ }
     requires { ⌜ Going (now tally) ⌝ }
-    ensures { λ _. ⌜ standing (now (tally .exit)) ≡ add (standing (now (tally .entry))) (met-from (now (s .entry)) (now (t .entry)) at marks) ⌝ }
+    ensures { λ _. ⌜ standing (now (tally .exit)) ≡ add (standing (now (tally .entry))) (met-from (form-in (now (t .entry))) (now (s .entry)) (now (t .entry)) at marks) ⌝ }
 {
     let mut i = at;
     let mut state = marks;
@@ -135,13 +138,13 @@ pub fn walk(s: &[u8], t: &Notes, at: usize, marks: Marks, tally: &mut Tally)
 
 // The branching that is item i, in a state that lacks no guard.
 fn walk_branching(s: &[u8], t: &Notes, i: usize, marks: Marks, tally: &mut Tally)
-    requires { ⌜ At-hand (now s) (now t) ⌝ }
-    requires { ⌜ step-in (now s) (now t) .lacks marks ≡ nowhere ⌝ }
-    requires { ⌜ i < items-of (plan-in (now s) (now t)) ⌝ }
+    requires { ⌜ At-hand (form-in (now t)) (now s) (now t) ⌝ }
+    requires { ⌜ step-in (form-in (now t)) (now s) (now t) .lacks marks ≡ nowhere ⌝ }
+    requires { ⌜ i < items-of (plan-in (form-in (now t)) (now s) (now t)) ⌝ }
     requires { ⌜ action-at (now s) (now t) i ≡ 255 ⌝ }
-    requires { ⌜ Marked marks ⌝ }
+    requires { ⌜ Fit (now s) (now t) marks ⌝ }
     requires { ⌜ Going (now tally) ⌝ }
-    ensures { λ _. ⌜ standing (now (tally .exit)) ≡ add (standing (now (tally .entry))) (walk-from (now (s .entry)) (now (t .entry)) i marks) ⌝ }
+    ensures { λ _. ⌜ standing (now (tally .exit)) ≡ add (standing (now (tally .entry))) (walk-from (form-in (now (t .entry))) (now (s .entry)) (now (t .entry)) i marks) ⌝ }
 {
     match chosen(s, t, i, &marks) {
         Found::At(at) => {
@@ -157,40 +160,49 @@ fn walk_branching(s: &[u8], t: &Notes, i: usize, marks: Marks, tally: &mut Tally
     }
 }
 
+// The walk goes on, and the fluent has a value above the one that this mark says.
+fn has_more(s: &[u8], t: &Notes, f: usize, mark: u8, tally: &Tally) -> bool
+    requires { ⌜ f < format .fluents ⌝ }
+    ensures { λ r. ⌜ r ≡ both (ltb (getD (now (tally .entry)) 0 0) 2) (ltb mark (values-as (form-in (now (t .entry))) (now (s .entry)) f)) ⌝ }
+{
+    let on = goes_on(tally);
+    if on {
+        let last = values_of(s, t, f);
+        return wide(mark) < last;
+    }
+    false
+}
+
 // The readings of fluent f and of the unknown ones above it that the action senses, which is item i; then what follows it.
 fn fork(s: &[u8], t: &Notes, i: usize, f: usize, marks: Marks, tally: &mut Tally)
-    requires { ⌜ At-hand (now s) (now t) ⌝ }
-    requires { ⌜ i < items-of (plan-in (now s) (now t)) ⌝ }
+    requires { ⌜ At-hand (form-in (now t)) (now s) (now t) ⌝ }
+    requires { ⌜ i < items-of (plan-in (form-in (now t)) (now s) (now t)) ⌝ }
     requires { ⌜ action-at (now s) (now t) i < format .actions ⌝ }
     requires { ⌜ f < format .fluents ⌝ }
-    requires { ⌜ Marked marks ⌝ }
+    requires { ⌜ Fit (now s) (now t) marks ⌝ }
     requires { ⌜ Going (now tally) ⌝ }
-    ensures { λ _. ⌜ standing (now (tally .exit)) ≡ add (standing (now (tally .entry))) (fork-from (now (s .entry)) (now (t .entry)) i f marks) ⌝ }
+    ensures { λ _. ⌜ standing (now (tally .exit)) ≡ add (standing (now (tally .entry))) (fork-from (form-in (now (t .entry))) (now (s .entry)) (now (t .entry)) i f marks) ⌝ }
 {
     let slot = notes::ITEM_PLACE + i;
     let p = get(t, slot);
     let a = wide(s[p]);
     let above = f + 1;
-    let second = limits::FALSE_MARK;
     let mut state = marks;
-    state[f] = limits::TRUE_MARK;
+    state[f] = limits::UNKNOWN_MARK;
     let g = next_unknown(s, t, a, above, &state);
+    let mut more = true;
     if g < limits::FLUENTS {
-        fork(s, t, i, g, state, tally);
-        let on = goes_on(tally);
-        if on {
-            state[f] = second;
+        while more {
+            state[f] += 1;
             fork(s, t, i, g, state, tally);
-            return;
+            more = has_more(s, t, f, state[f], tally);
         }
         return;
     }
     let at = follow(s, t, i);
-    walk(s, t, at, state, tally);
-    let on = goes_on(tally);
-    if on {
-        state[f] = second;
+    while more {
+        state[f] += 1;
         walk(s, t, at, state, tally);
-        return;
+        more = has_more(s, t, f, state[f], tally);
     }
 }

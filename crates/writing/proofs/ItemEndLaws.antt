@@ -25,14 +25,14 @@ use Rattle.writing.specs.Ends.{Item-ends}
 use Rattle.writing.proofs.ItemStands.{Item-stands, item-length, stands-taken, each-stands, on-first}
 
 -- AN ITEM of a plan at hand.
-module _ (s t : List ℕ) (here : At-hand s t) (i : ℕ) (less : i < items-of (plan-in s t)) where
-  pub laid : Item-laid s t (plan-in s t) i
+module _ (s t : List ℕ) (here : At-hand Flags s t) (i : ℕ) (less : i < items-of (plan-in Flags s t)) where
+  pub laid : Item-laid Flags s t (plan-in Flags s t) i
   laid = item-laid s t here i less
 
   this-stands : Item-stands s (laid .this)
   this-stands =
-      on-first (Item-stands s) (plan-in s t)
-      (each-stands (table-in s .fluents) (table-in s .actions) s (here .bytes) (getD t plan-slot 0) (record { value = plan-in s t; items = getD t items-slot 0 }) (goals-in t) (here .plan))
+      on-first (Item-stands s) (plan-in Flags s t)
+      (each-stands (table-in Flags s .fluents) (table-in Flags s .actions) s (here .bytes) (getD t plan-slot 0) (record { value = plan-in Flags s t; items = getD t items-slot 0 }) (goals-in t) (here .plan))
       i (laid .this) (laid .after) (laid .rest)
 
   pub start-there : getD t (item-place + i) 0 < length s
@@ -60,13 +60,13 @@ module _ (s t : List ℕ) (here : At-hand s t) (i : ℕ) (less : i < items-of (p
 pub record Ending (s t : List ℕ) (i left p met : ℕ) : Type 0 where
   pub branches : Branches ℕ
   pub after : Sequence ℕ
-  pub here : Branches-here s t left p met
+  pub here : Branches-here Flags s t left p met
   pub count : left ≡ branches-in branches
-  pub written : Branches-written s p branches
-  pub laid : Branches-laid t (plan-in s t) met p after branches
+  pub written : Branches-written Flags s p branches
+  pub laid : Branches-laid Flags t (plan-in Flags s t) met p after branches
   pub ends : (end : ℕ) → end ≡ p + bytes-under Flags branches → Item-ends s t i end
 
-module _ (s t : List ℕ) (here : At-hand s t) (i : ℕ) (less : i < items-of (plan-in s t)) (start : ℕ) (starts : start ≡ getD t (0 + i) 0) where
+module _ (s t : List ℕ) (here : At-hand Flags s t) (i : ℕ) (less : i < items-of (plan-in Flags s t)) (start : ℕ) (starts : start ≡ getD t (0 + i) 0) where
   pub first-there : start < length s
   first-there = rw starts (start-there s t here i less)
 
@@ -78,7 +78,7 @@ module _ (s t : List ℕ) (here : At-hand s t) (i : ℕ) (less : i < items-of (p
   unfolding place-of bytes-in Item-written
   action-ends other = let l = laid s t here i less in ends-behind s t here i less (start + 1) (by-item (l .this) (l .place) (l .written))
     where
-      by-item : (this : Item ℕ) → getD t (0 + i) 0 ≡ place-of this → Item-written s this → start + 1 ≡ getD t (0 + i) 0 + bytes-in Flags this
+      by-item : (this : Item ℕ) → getD t (0 + i) 0 ≡ place-of this → Item-written Flags s this → start + 1 ≡ getD t (0 + i) 0 + bytes-in Flags this
       by-item (act p a) place w = omega (arith, starts)
       by-item (branching p bs) place w = absurd (other (ap (λ (n : ℕ). getD s n 0) (starts ∙ place) ∙ w .0 .byte))
 
@@ -98,7 +98,7 @@ module _ (s t : List ℕ) (here : At-hand s t) (i : ℕ) (less : i < items-of (p
         let l = laid s t here i less in
         rw (counted, starts) (by-item (l .this) (l .after) (l .place) (l .written) (l .inside) (ends-behind s t here i less))
       where
-        by-item : (this : Item ℕ) (after : Sequence ℕ) → getD t (0 + i) 0 ≡ place-of this → Item-written s this → Inside-laid t (plan-in s t) i after this
+        by-item : (this : Item ℕ) (after : Sequence ℕ) → getD t (0 + i) 0 ≡ place-of this → Item-written Flags s this → Inside-laid Flags t (plan-in Flags s t) i after this
             → ((end : ℕ) → end ≡ getD t (0 + i) 0 + bytes-in Flags this → Item-ends s t i end)
             → Ending s t i (getD s (getD t (0 + i) 0 + 1) 0) (getD t (0 + i) 0 + 2) (i + 1)
         by-item (act p a) after place w inside ends =
@@ -125,23 +125,23 @@ module _ (s t : List ℕ) (i left p met : ℕ) (ending : Ending s t i left p met
       by-branch (branch c d bs) count ends = absurd (omega (arith, over, count))
 
   module _ (more : 0 < left) where
-    pub branch-there : Branch-here s p met
-    branch-there = branch-first s t left p met more (ending .here)
+    pub branch-there : Branch-here Flags s p met
+    branch-there = branch-first Flags s t left p met more (ending .here)
 
-    pub ending-next : (q j : ℕ) → q ≡ place-after s t p met → j ≡ item-after s t p met → Ending s t i (left - 1) q j
+    pub ending-next : (q j : ℕ) → q ≡ place-after Flags s t p met → j ≡ item-after Flags s t p met → Ending s t i (left - 1) q j
     unfolding branches-in bytes-under Branches-written Branches-laid
     ending-next q j placed counted = by-branch (ending .branches) (ending .count) (ending .written) (ending .laid) (ending .ends)
       where
-        by-branch : (bs : Branches ℕ) → left ≡ branches-in bs → Branches-written s p bs → Branches-laid t (plan-in s t) met p (ending .after) bs
+        by-branch : (bs : Branches ℕ) → left ≡ branches-in bs → Branches-written Flags s p bs → Branches-laid Flags t (plan-in Flags s t) met p (ending .after) bs
             → ((end : ℕ) → end ≡ p + bytes-under Flags bs → Item-ends s t i end) → Ending s t i (left - 1) q j
         by-branch none count w l ends = absurd (omega (arith, more, count))
         by-branch (branch c d bs) count w l ends =
-            let there : q ≡ p + (1 + length c) + (2 + bytes-of Flags d) = placed ∙ place-is s t met p c d (w .0) (l .0 .kept) in
-            let items : j ≡ met + items-of d = counted ∙ item-is s t met p c d (w .0) (l .0 .kept) in
+            let there : q ≡ p + (1 + length c) + (2 + bytes-of Flags d) = placed ∙ place-is Flags s t met p c d (w .0) (l .0 .kept) in
+            let items : j ≡ met + items-of d = counted ∙ item-is Flags s t met p c d (w .0) (l .0 .kept) in
             record {
               branches = bs;
               after = ending .after;
-              here = branches-next s t left p met more (ending .here) q j placed counted;
+              here = branches-next Flags s t left p met more (ending .here) q j placed counted;
               count = omega (arith, count);
               written = rw there (w .2);
               laid = rw (there, items) (l .1);

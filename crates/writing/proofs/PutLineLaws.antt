@@ -26,6 +26,7 @@ use Rattle.steps.specs.AtHand.{At-hand}
 use Rattle.steps.proofs.HandLaws.{goals-here, is-whether}
 use Rattle.steps.proofs.StoreLaws.{stores-behind}
 use Rattle.writing.proofs.ItemStands.{stands-taken}
+use Rattle.meaning.specs.declared.Form.the-variants.{Flags}
 
 -- ONE PART behind another.
 module _ (q p : ℕ) (xs ys : List ℕ) (at : p ≡ q + length xs) where
@@ -46,11 +47,11 @@ module _ (q ruled rule : ℕ) (xs : List ℕ) (at : ruled ≡ q + length xs) whe
       put-behind q ruled xs (rule ∷ 0 ∷ []) at room known after first (third ∙ ap₂ (λ (zs : List ℕ) (j : ℕ). set zs j 0) second on)
 
 -- THE GOALS, which stand in the request from their count on.
-module _ (s t : List ℕ) (here : At-hand s t) (goals : ℕ) (slot : goals ≡ getD t goals-slot 0) where
+module _ (s t : List ℕ) (here : At-hand Flags s t) (goals : ℕ) (slot : goals ≡ getD t goals-slot 0) where
   pub goals-there : List-here all-literals s goals
   goals-there = goals-here s t here goals slot
 
-  module _ (end : ℕ) (ends : end ≡ sequence-place s goals) where
+  module _ (end : ℕ) (ends : end ≡ sequence-place Flags s goals) where
     pub goals-order : goals ≤ end
     unfolding sequence-place
     goals-order = omega (arith, ends)
@@ -75,25 +76,25 @@ module _ (s t : List ℕ) (here : At-hand s t) (goals : ℕ) (slot : goals ≡ g
 
     goals-stand : (length (list-written (listed s goals)) ≡ end - goals) × (take (length (list-written (listed s goals))) (drop goals s) ≡ list-written (listed s goals))
     goals-stand =
-        let st = list-copied literals (table-in s .fluents) s (format .listed) (goals-in t) .holds (listed s (goals-in t)) (whether-in s t) (here .goals) .there in
-        let long = stands-length s (goals-in t) (list-written (listed s (goals-in t))) (whether-in s t) st in
+        let st = list-copied literals (table-in Flags s .fluents) s (format .listed) (goals-in t) .holds (listed s (goals-in t)) (whether-in Flags s t) (here .goals) .there in
+        let long = stands-length s (goals-in t) (list-written (listed s (goals-in t))) (whether-in Flags s t) st in
         let last = is-whether s t here goals slot end ends in
         let at = at-slot in
         let order = goals-order in
         let same : length (list-written (listed s goals)) ≡ length (list-written (listed s (goals-in t))) = ap (λ (p : ℕ). length (list-written (listed s p))) at in
-        (omega (arith, long, last, at, order, same), rw at (stands-taken s (goals-in t) (list-written (listed s (goals-in t))) (whether-in s t) st))
+        (omega (arith, long, last, at, order, same), rw at (stands-taken s (goals-in t) (list-written (listed s (goals-in t))) (whether-in Flags s t) st))
 
-    asked-are : conclusion-written (goals-of (request-in s t)) ≡ list-written (listed s goals)
+    asked-are : conclusion-written (goals-of (request-in Flags s t)) ≡ list-written (listed s goals)
     unfolding conclusion-written goals-of request-in
     asked-are = rw at-slot (ap list-written (placed-values (goals-in t + 1) (listed s (goals-in t))))
 
-    goals-part : take (end - goals) (drop goals s) ≡ conclusion-written (goals-of (request-in s t))
+    goals-part : take (end - goals) (drop goals s) ≡ conclusion-written (goals-of (request-in Flags s t))
     goals-part = ap (λ (n : ℕ). take n (drop goals s)) (sym (goals-stand .0)) ∙ goals-stand .1 ∙ sym asked-are
 
-    pub goals-end : (q : ℕ) → q + (end - goals) ≡ q + length (conclusion-written (goals-of (request-in s t)))
+    pub goals-end : (q : ℕ) → q + (end - goals) ≡ q + length (conclusion-written (goals-of (request-in Flags s t)))
     goals-end q = ap (λ (n : ℕ). q + n) (sym (goals-stand .0) ∙ ap length (sym asked-are))
 
-    pub goals-put : (room after : List ℕ) (q : ℕ) → after ≡ sets room q (take (end - goals) (drop goals s)) → after ≡ sets room q (conclusion-written (goals-of (request-in s t)))
+    pub goals-put : (room after : List ℕ) (q : ℕ) → after ≡ sets room q (take (end - goals) (drop goals s)) → after ≡ sets room q (conclusion-written (goals-of (request-in Flags s t)))
     goals-put room after q put = put ∙ ap (λ (xs : List ℕ). sets room q xs) goals-part
 
 -- THE PARTS of a line in the plain layout.

@@ -20,20 +20,21 @@ use Rattle.steps.proofs.HandLaws.{few-items}
 use Rattle.steps.proofs.RestLaws.{rest-past}
 use Rattle.writing.specs.Ends.{Item-ends}
 use Rattle.steps.proofs.StoreLaws.{store-before, stores-behind}
+use Rattle.meaning.specs.declared.Form.the-variants.{Flags}
 
 -- What is left from position i on is still to be put, from p on; the items before it are put.
 pub record Items-put (s t before : List ℕ) (at q : ℕ) (room : List ℕ) (i p items : ℕ) : Type 0 where
   pub short : length s ≤ format .request
-  pub position : Position (plan-in s t) i
+  pub position : Position (plan-in Flags s t) i
   pub few : items ≤ i
   pub near : q < 140737488355330
   pub within : p ≤ q + format .request * items
   pub sized : length room ≡ length before
-  pub counted : items-in (rest-at (plan-in s t) at) ≡ items + items-in (rest-at (plan-in s t) i)
-  pub placed : q + length (items-written (rest-at (plan-in s t) at)) ≡ p + length (items-written (rest-at (plan-in s t) i))
-  pub same : sets before q (items-written (rest-at (plan-in s t) at)) ≡ sets room p (items-written (rest-at (plan-in s t) i))
+  pub counted : items-in (rest-at (plan-in Flags s t) at) ≡ items + items-in (rest-at (plan-in Flags s t) i)
+  pub placed : q + length (items-written (rest-at (plan-in Flags s t) at)) ≡ p + length (items-written (rest-at (plan-in Flags s t) i))
+  pub same : sets before q (items-written (rest-at (plan-in Flags s t) at)) ≡ sets room p (items-written (rest-at (plan-in Flags s t) i))
 
-pub items-start : (s t room : List ℕ) (at q : ℕ) → At-hand s t → Position (plan-in s t) at → q < 140737488355330 → Items-put s t room at q room at q 0
+pub items-start : (s t room : List ℕ) (at q : ℕ) → At-hand Flags s t → Position (plan-in Flags s t) at → q < 140737488355330 → Items-put s t room at q room at q 0
 items-start s t room at q here position near = record {
   short = here .short;
   position = position;
@@ -49,7 +50,7 @@ items-start s t room at q here position near = record {
 module _ (s t before : List ℕ) (at q : ℕ) (room : List ℕ) (i p items : ℕ) (puts : Items-put s t before at q room i p items) where
   -- One more item.
   module _ (more : i < format .items) where
-    pub item-less : i < items-of (plan-in s t)
+    pub item-less : i < items-of (plan-in Flags s t)
     item-less = puts .position .there (λ e. omega (arith, e, more))
 
     pub slot-fits : Fits w64 (0 + i)
@@ -85,16 +86,16 @@ module _ (s t before : List ℕ) (at q : ℕ) (room : List ℕ) (i p items : ℕ
         part-is : take (end - start) (drop start s) ≡ item-written (ends .this)
         part-is = ap₂ (λ (n p : ℕ). take n (drop p s)) long starts ∙ ends .bytes
 
-        module _ (r : ℕ) (follows : Followed s t i r) where
-          left-is : rest-at (plan-in s t) r ≡ ends .after
+        module _ (r : ℕ) (follows : Followed Flags s t i r) where
+          left-is : rest-at (plan-in Flags s t) r ≡ ends .after
           unfolding after-first
           left-is = follows .rest ∙ rw (ends .rest)
 
-          bytes-are : items-written (rest-at (plan-in s t) i) ≡ item-written (ends .this) ++ items-written (rest-at (plan-in s t) r)
+          bytes-are : items-written (rest-at (plan-in Flags s t) i) ≡ item-written (ends .this) ++ items-written (rest-at (plan-in Flags s t) r)
           unfolding items-written
           bytes-are = rw (ends .rest, left-is)
 
-          one-more : items-in (rest-at (plan-in s t) i) ≡ 1 + items-in (rest-at (plan-in s t) r)
+          one-more : items-in (rest-at (plan-in Flags s t) i) ≡ 1 + items-in (rest-at (plan-in Flags s t) r)
           unfolding items-in
           one-more = rw (ends .rest, left-is) (omega arith)
 
@@ -105,7 +106,7 @@ module _ (s t before : List ℕ) (at q : ℕ) (room : List ℕ) (i p items : ℕ
               let counted = puts .counted in let one = one-more in
               let placed = puts .placed in
               let size = long in
-              let sum = ap length bytes-are ∙ length-append (item-written (ends .this)) (items-written (rest-at (plan-in s t) r)) in
+              let sum = ap length bytes-are ∙ length-append (item-written (ends .this)) (items-written (rest-at (plan-in Flags s t) r)) in
               let on : p + length (item-written (ends .this)) ≡ p + (end - start) = omega (arith, size) in
               record {
                 short = puts .short;
@@ -119,20 +120,20 @@ module _ (s t before : List ℕ) (at q : ℕ) (room : List ℕ) (i p items : ℕ
                 same =
                     puts .same
                     ∙ ap (λ (xs : List ℕ). sets room p xs) bytes-are
-                    ∙ stores-behind (item-written (ends .this)) (items-written (rest-at (plan-in s t) r)) room p
-                    ∙ ap₂ (λ (xs : List ℕ) (j : ℕ). sets xs j (items-written (rest-at (plan-in s t) r))) (sym (put ∙ ap (λ (xs : List ℕ). sets room p xs) part-is)) on;
+                    ∙ stores-behind (item-written (ends .this)) (items-written (rest-at (plan-in Flags s t) r)) room p
+                    ∙ ap₂ (λ (xs : List ℕ) (j : ℕ). sets xs j (items-written (rest-at (plan-in Flags s t) r))) (sym (put ∙ ap (λ (xs : List ℕ). sets room p xs) part-is)) on;
               }
 
           pub items-less : format .items - r < format .items - i
           items-less = let later = follows .later in let most = follows .at .most in omega (arith, later, most, more)
 
   -- None is left.
-  module _ (here : At-hand s t) (over : format .items ≤ i) where
-    none-left : rest-at (plan-in s t) i ≡ done
+  module _ (here : At-hand Flags s t) (over : format .items ≤ i) where
+    none-left : rest-at (plan-in Flags s t) i ≡ done
     unfolding rest-at
-    none-left = let few = few-items s t here in rest-past (plan-in s t) 0 i done (omega (arith, few, over))
+    none-left = let few = few-items s t here in rest-past (plan-in Flags s t) 0 i done (omega (arith, few, over))
 
-    pub items-end : p ≡ q + length (items-written (rest-at (plan-in s t) at))
+    pub items-end : p ≡ q + length (items-written (rest-at (plan-in Flags s t) at))
     unfolding items-written
     items-end = let placed = puts .placed in let none = ap (λ (b : Sequence ℕ). length (items-written b)) none-left in omega (arith, placed, none)
 
@@ -142,11 +143,11 @@ module _ (s t before : List ℕ) (at q : ℕ) (room : List ℕ) (i p items : ℕ
     pub items-within : p ≤ q + format .request * format .items
     items-within = let within = puts .within in let few = items-few in omega (arith, within, few)
 
-    pub items-counted : items ≡ items-in (rest-at (plan-in s t) at)
+    pub items-counted : items ≡ items-in (rest-at (plan-in Flags s t) at)
     unfolding items-in
     items-counted = let counted = puts .counted in let none = ap items-in none-left in omega (arith, counted, none)
 
-    pub items-are : room ≡ sets before q (items-written (rest-at (plan-in s t) at))
+    pub items-are : room ≡ sets before q (items-written (rest-at (plan-in Flags s t) at))
     unfolding items-written
     items-are = sym (puts .same ∙ ap (λ (b : Sequence ℕ). sets room p (items-written b)) none-left)
 

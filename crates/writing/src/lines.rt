@@ -14,6 +14,7 @@ ghost use Rattle.steps.specs.Held.{plan-in, request-in};
 ghost use Rattle.steps.specs.AtHand.{At-hand, Marked};
 ghost use Rattle.steps.specs.Rests.{Position, rest-at};
 ghost use Rattle.writing.specs.Progress.{add, standing, Underway, cited, Cited};
+ghost use Rattle.meaning.specs.declared.Form.the-variants.{Flags};
 use super::rests::put_rest;
 use super::room::put;
 use super::room::put_known;
@@ -22,6 +23,7 @@ use super::room::put_part;
 use super::rule_bytes;
 use bytes::limits;
 use finding::branches::sequence_of;
+use meaning::Form;
 use reading::marks::Marks;
 use reading::notes;
 use reading::notes::Notes;
@@ -83,14 +85,14 @@ fn put_uncited(marks: &Marks, rule: u8, room: &mut [u8], q: usize) -> usize
 
 // The goals as the conclusion, copied from the request. It gives the place after them.
 fn put_asked(s: &[u8], t: &Notes, room: &mut [u8], q: usize) -> usize
-    requires { ⌜ At-hand (now s) (now t) ⌝ }
+    requires { ⌜ At-hand Flags (now s) (now t) ⌝ }
     requires { ⌜ q < 140737488355328 ⌝ }
-    ensures after { λ r. ⌜ r ≡ q + length (conclusion-written (goals-of (request-in (now (s .entry)) (now (t .entry))))) ⌝ }
+    ensures after { λ r. ⌜ r ≡ q + length (conclusion-written (goals-of (request-in Flags (now (s .entry)) (now (t .entry))))) ⌝ }
     ensures within { λ r. ⌜ r ≤ q + 256 ⌝ }
-    ensures written { λ _. ⌜ now (room .exit) ≡ sets (now (room .entry)) q (conclusion-written (goals-of (request-in (now (s .entry)) (now (t .entry))))) ⌝ }
+    ensures written { λ _. ⌜ now (room .exit) ≡ sets (now (room .entry)) q (conclusion-written (goals-of (request-in Flags (now (s .entry)) (now (t .entry))))) ⌝ }
 {
     let goals = get(t, notes::GOALS);
-    let end = sequence_of(s, goals);
+    let end = sequence_of(Form::Flags, s, goals);
     put_part(s, goals, end, room, q);
     q + (end - goals)
 }
@@ -147,12 +149,12 @@ pub fn put_goals(
     room: &mut [u8],
     progress: &mut Progress,
 )
-    requires { ⌜ At-hand (now s) (now t) ⌝ }
-    requires { ⌜ Position (plan-in (now s) (now t)) at ⌝ }
+    requires { ⌜ At-hand Flags (now s) (now t) ⌝ }
+    requires { ⌜ Position (plan-in Flags (now s) (now t)) at ⌝ }
     requires { ⌜ Marked (now marks) ⌝ }
     requires { ⌜ Cited (now cites) ⌝ }
     requires { ⌜ Underway (now progress) ⌝ }
-    ensures stands { λ _. ⌜ standing (now (progress .exit)) (now (room .exit)) ≡ add (standing (now (progress .entry)) (now (room .entry))) (line-of (now (marks .entry)) (rest-at (plan-in (now (s .entry)) (now (t .entry))) at) (goals-of (request-in (now (s .entry)) (now (t .entry)))) rule (cited (now (cites .entry))) ∷ []) ⌝ }
+    ensures stands { λ _. ⌜ standing (now (progress .exit)) (now (room .exit)) ≡ add (standing (now (progress .entry)) (now (room .entry))) (line-of (now (marks .entry)) (rest-at (plan-in Flags (now (s .entry)) (now (t .entry))) at) (goals-of (request-in Flags (now (s .entry)) (now (t .entry)))) rule (cited (now (cites .entry))) ∷ []) ⌝ }
     ensures going { λ _. ⌜ Underway (now (progress .exit)) ⌝ }
 {
     if limits::LINES < progress[0] {

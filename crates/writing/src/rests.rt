@@ -11,12 +11,14 @@ ghost use Rattle.steps.specs.Held.{plan-in};
 ghost use Rattle.steps.specs.AtHand.{At-hand};
 ghost use Rattle.steps.specs.Rests.{Position, rest-at};
 ghost use Rattle.writing.specs.Ends.{Item-ends};
+ghost use Rattle.meaning.specs.declared.Form.the-variants.{Flags};
 use super::room::put_number;
 use super::room::put_part;
 use bytes::bytes::wide;
 use bytes::limits;
 use finding::branches::next_item;
 use finding::branches::next_place;
+use meaning::Form;
 use reading::notes;
 use reading::notes::Notes;
 use reading::notes::get;
@@ -24,8 +26,8 @@ use steps::onward::follow;
 
 // The place after item i.
 fn item_end(s: &[u8], t: &Notes, i: usize) -> usize
-    requires { ⌜ At-hand (now s) (now t) ⌝ }
-    requires { ⌜ i < items-of (plan-in (now s) (now t)) ⌝ }
+    requires { ⌜ At-hand Flags (now s) (now t) ⌝ }
+    requires { ⌜ i < items-of (plan-in Flags (now s) (now t)) ⌝ }
     ensures { λ r. ⌜ Item-ends (now (s .entry)) (now (t .entry)) i r ⌝ }
 {
     let slot = notes::ITEM_PLACE + i;
@@ -38,8 +40,8 @@ fn item_end(s: &[u8], t: &Notes, i: usize) -> usize
     let mut p = start + 2;
     let mut item = i + 1;
     while 0 < left {
-        let q = next_place(s, t, p, item);
-        let j = next_item(s, t, p, item);
+        let q = next_place(Form::Flags, s, t, p, item);
+        let j = next_item(Form::Flags, s, t, p, item);
         p = q;
         item = j;
         left -= 1;
@@ -55,14 +57,14 @@ pub struct Put {
 
 // The items from a position on.
 fn put_items(s: &[u8], t: &Notes, at: usize, room: &mut [u8], q: usize) -> Put
-    requires { ⌜ At-hand (now s) (now t) ⌝ }
-    requires { ⌜ Position (plan-in (now s) (now t)) at ⌝ }
+    requires { ⌜ At-hand Flags (now s) (now t) ⌝ }
+    requires { ⌜ Position (plan-in Flags (now s) (now t)) at ⌝ }
     requires { ⌜ q < 140737488355330 ⌝ }
-    ensures after { λ r. ⌜ r .end ≡ q + length (items-written (rest-at (plan-in (now (s .entry)) (now (t .entry))) at)) ⌝ }
+    ensures after { λ r. ⌜ r .end ≡ q + length (items-written (rest-at (plan-in Flags (now (s .entry)) (now (t .entry))) at)) ⌝ }
     ensures within { λ r. ⌜ r .end ≤ q + format .request * format .items ⌝ }
-    ensures items { λ r. ⌜ r .items ≡ items-in (rest-at (plan-in (now (s .entry)) (now (t .entry))) at) ⌝ }
+    ensures items { λ r. ⌜ r .items ≡ items-in (rest-at (plan-in Flags (now (s .entry)) (now (t .entry))) at) ⌝ }
     ensures few { λ r. ⌜ r .items ≤ format .items ⌝ }
-    ensures written { λ _. ⌜ now (room .exit) ≡ sets (now (room .entry)) q (items-written (rest-at (plan-in (now (s .entry)) (now (t .entry))) at)) ⌝ }
+    ensures written { λ _. ⌜ now (room .exit) ≡ sets (now (room .entry)) q (items-written (rest-at (plan-in Flags (now (s .entry)) (now (t .entry))) at)) ⌝ }
 {
     let mut i = at;
     let mut p = q;
@@ -74,7 +76,7 @@ fn put_items(s: &[u8], t: &Notes, at: usize, room: &mut [u8], q: usize) -> Put
         put_part(s, start, end, room, p);
         p += end - start;
         items += 1;
-        i = follow(s, t, i);
+        i = follow(Form::Flags, s, t, i);
     }
     Put {
         end: p,
@@ -84,12 +86,12 @@ fn put_items(s: &[u8], t: &Notes, at: usize, room: &mut [u8], q: usize) -> Put
 
 // What is left from a position on: the number of its items, and the items. It gives the place after them.
 pub fn put_rest(s: &[u8], t: &Notes, at: usize, room: &mut [u8], q: usize) -> usize
-    requires { ⌜ At-hand (now s) (now t) ⌝ }
-    requires { ⌜ Position (plan-in (now s) (now t)) at ⌝ }
+    requires { ⌜ At-hand Flags (now s) (now t) ⌝ }
+    requires { ⌜ Position (plan-in Flags (now s) (now t)) at ⌝ }
     requires { ⌜ q < 140737488355328 ⌝ }
-    ensures after { λ r. ⌜ r ≡ q + length (plan-written (rest-at (plan-in (now (s .entry)) (now (t .entry))) at)) ⌝ }
+    ensures after { λ r. ⌜ r ≡ q + length (plan-written (rest-at (plan-in Flags (now (s .entry)) (now (t .entry))) at)) ⌝ }
     ensures within { λ r. ⌜ r ≤ q + 2 + format .request * format .items ⌝ }
-    ensures written { λ _. ⌜ now (room .exit) ≡ sets (now (room .entry)) q (plan-written (rest-at (plan-in (now (s .entry)) (now (t .entry))) at)) ⌝ }
+    ensures written { λ _. ⌜ now (room .exit) ≡ sets (now (room .entry)) q (plan-written (rest-at (plan-in Flags (now (s .entry)) (now (t .entry))) at)) ⌝ }
 {
     let first = q + 2;
     let put = put_items(s, t, at, room, first);

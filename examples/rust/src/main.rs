@@ -3,6 +3,7 @@
 //!     review judge [--line] [--budget N] REQUEST...           (100,000 unless told otherwise)
 //!     review judge-guarded [--budget N] REQUEST...
 //!     review judge-by-cases [--budget N] REQUEST...
+//!     review judge-values [--budget N] REQUEST...
 //!     review index REQUEST...
 //!     review judge-indexed [--budget N] REQUEST INDEX [REQUEST INDEX]...
 //!     review derive [--budget N] REQUEST...
@@ -13,10 +14,10 @@
 //! `check` and `check-whether` do not walk the plan: a derivation may be accepted where every budget is spent. The second takes requests
 //! with whether entries too, and derivations in the closing layout. With `--line` a walk that an action stops also says which executability line
 //! of it was missing. `judge-guarded` takes guarded requests, whose guards are to be known true all the way. `judge-by-cases` tries each action in every
-//! filling of what is unknown. `index` says how the index of each request begins, and `judge-indexed` walks by an index, which the program `index` has
-//! written to a file. `derive` walks too, and says how the derivation of each request begins, which the program `derive` writes to a file. `release` takes release
-//! files, each with many plans over one table, and has a line for each plan. The exit status is 0 where each plan is verified, each derivation accepted or written
-//! or each request indexed, 1 where some answer is another, and 2 where something can't be read or written.
+//! filling of what is unknown. `judge-values` takes values requests, whose fluents have 2 to 16 values each. `index` says how the index of each request begins, and
+//! `judge-indexed` walks by an index, which the program `index` has written to a file. `derive` walks too, and says how the derivation of each request begins, which
+//! the program `derive` writes to a file. `release` takes release files, each with many plans over one table, and has a line for each plan. The exit status is 0 where
+//! each plan is verified, each derivation accepted or written or each request indexed, 1 where some answer is another, and 2 where something can't be read or written.
 
 use std::env;
 use std::fs::File;
@@ -26,7 +27,7 @@ use std::process::ExitCode;
 use glintstring::{check, check_whether, index, show, Answer, Input, Judge, NotDerived, PlanAnswer, Released, DERIVATION_LIMIT, INDEX_MOST, REQUEST_LIMIT};
 
 const USAGE: &str = "usage: review judge [--line] [--budget N] REQUEST... | review judge-guarded [--budget N] REQUEST... | \
-                     review judge-by-cases [--budget N] REQUEST... | review index REQUEST... | \
+                     review judge-by-cases [--budget N] REQUEST... | review judge-values [--budget N] REQUEST... | review index REQUEST... | \
                      review judge-indexed [--budget N] REQUEST INDEX [REQUEST INDEX]... | review derive [--budget N] REQUEST... | \
                      review check REQUEST DERIVATION [REQUEST DERIVATION]... | \
                      review check-whether REQUEST DERIVATION [REQUEST DERIVATION]... | review release [--budget N] FILE...";
@@ -71,9 +72,13 @@ fn print(answer: Answer, about: &About) -> io::Result<()> {
     let mut out = io::stdout().lock();
     writeln!(out, "{}: {}", about.name, answer.words())?;
     writeln!(out, "  number {}, place {}, count {}", answer.number(), answer.place(), answer.count())?;
+    // A request that was walked starts with its number of fluents.
+    let fluents = || about.request[0].into();
     if let Some(state) = answer.state() {
-        // A request that was walked starts with its number of fluents.
-        writeln!(out, "  state {}", state.line(about.request[0].into()))?;
+        writeln!(out, "  state {}", state.line(fluents()))?;
+    }
+    if let Some(values) = answer.values() {
+        writeln!(out, "  state {}", values.line(fluents()))?;
     }
     let Some(input) = answer.named() else { return Ok(()) };
     let (whole, part) = match input {
@@ -117,7 +122,7 @@ fn judge_file(asked: &mut Asked, names: &[&str]) -> Result<u8, String> {
     Ok(told)
 }
 
-/// The same by the guarded call or by the call by cases.
+/// The same by the guarded call, by the call by cases or by the values call.
 fn judge_file_by(walk: fn(&mut Judge, &[u8], u32) -> Answer, asked: &mut Asked, names: &[&str]) -> Result<u8, String> {
     let request = read(names[0], REQUEST_LIMIT)?;
     tell(walk(&mut asked.judge, &request, asked.budget), &About { name: names[0], request: &request, second: &[] })
@@ -196,10 +201,11 @@ fn release_file(asked: &mut Asked, names: &[&str]) -> Result<u8, String> {
 type Command = fn(&mut Asked, &[&str]) -> Result<u8, String>;
 
 /// The commands, each with the number of files that an answer takes, and whether there is a budget.
-const COMMANDS: [(&str, usize, bool, Command); 9] = [
+const COMMANDS: [(&str, usize, bool, Command); 10] = [
     ("judge", 1, true, judge_file),
     ("judge-guarded", 1, true, |asked, names| judge_file_by(Judge::judge_guarded, asked, names)),
     ("judge-by-cases", 1, true, |asked, names| judge_file_by(Judge::judge_by_cases, asked, names)),
+    ("judge-values", 1, true, |asked, names| judge_file_by(Judge::judge_values, asked, names)),
     ("index", 1, false, index_file),
     ("judge-indexed", 2, true, judge_indexed_files),
     ("derive", 1, true, derive_file),

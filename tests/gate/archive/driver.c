@@ -1,8 +1,8 @@
 /*
  * Makes the calls of the archive that it is linked with: takes frames from standard input and writes replies to standard output, until the
  * input ends. Inputs stand between random bytes, and after each call it looks whether a byte changed that may not. A walk call, a guarded call, a call by
- * cases, an indexed call, a derive call and a release call have the stack that the header asks for, each other call 256 KiB, with a page below that may not be
- * touched.
+ * cases, an indexed call, a values call, a derive call and a release call have the stack that the header asks for, each other call 256 KiB, with a page below that
+ * may not be touched.
  *   driver COUNTS [FAULT CALL]
  * At the end a line for each call and number, with how often it was given, is added to the file COUNTS. With a FAULT the call of that number,
  * from 1 on, goes wrong on purpose: its answer is another (answer), a byte is changed in its request or file (request), in its lent state or room,
@@ -91,6 +91,7 @@ static void make(void) {
     case JUDGE: answer = glintstring_judge(first, request.length, other, second.length, frame.budget); break;
     case JUDGE_GUARDED: answer = glintstring_judge_guarded(first, request.length, other, second.length, frame.budget); break;
     case JUDGE_BY_CASES: answer = glintstring_judge_by_cases(first, request.length, other, second.length, frame.budget); break;
+    case JUDGE_VALUES: answer = glintstring_judge_values(first, request.length, other, second.length, frame.budget); break;
     case INDEX: answer = glintstring_index(first, request.length, other, second.length); break;
     case DERIVE: answer = glintstring_derive(first, request.length, other, second.length, frame.budget); break;
     case JUDGE_INDEXED: answer = glintstring_judge_indexed(first, request.length, index, third.length, other, second.length, frame.budget); break;
@@ -135,7 +136,7 @@ static void go_wrong(const char *fault) {
 
 static int walks(void) {
     return frame.call == JUDGE || frame.call == JUDGE_LINE || frame.call == JUDGE_GUARDED || frame.call == JUDGE_BY_CASES || frame.call == JUDGE_INDEXED ||
-           frame.call == DERIVE || frame.call == RELEASE;
+           frame.call == JUDGE_VALUES || frame.call == DERIVE || frame.call == RELEASE;
 }
 
 /* Whether the call may write its second input. */
@@ -153,7 +154,7 @@ static uint32_t changed_by_call(void) {
 }
 
 int main(int words, char **word) {
-    static const char *const name[CALLS] = {"judge", "judge_line", "check", "check_whether", "show", "release", "plans", "judge_guarded", "judge_by_cases", "index", "judge_indexed", "derive"};
+    static const char *const name[CALLS] = {"judge", "judge_line", "check", "check_whether", "show", "release", "plans", "judge_guarded", "judge_by_cases", "index", "judge_indexed", "derive", "judge_values"};
     static uint64_t given[CALLS][256];
     uint64_t calls = 0, faulty = words == 4 ? strtoull(word[3], NULL, 10) : 0;
     char *stack = stack_of(GLINTSTRING_STACK_NEEDED), *little_stack = stack_of(LITTLE_STACK);

@@ -76,8 +76,8 @@ static int received(void *to, size_t length) {
 
 static uint8_t at(const uint8_t *bytes) { return bytes == NULL ? NOWHERE : (uint8_t)((uintptr_t)bytes & 15); }
 
-/* The lent bytes are those of a walk call, a guarded call, a call by cases, an indexed call, an index call, a derive call or a release call, the third input is
-   an index, and the line is that of a walk call with the line. */
+/* The lent bytes are those of a walk call, a guarded call, a call by cases, an indexed call, a values call, an index call, a derive call or a release call, the
+   third input is an index, and the line is that of a walk call with the line. */
 static uint64_t made(struct frame frame, const uint8_t *request, const uint8_t *second, const uint8_t *third, uint8_t *lent, uint32_t *line) {
     static const char *const what[] = {"", "the request", "what stands around the request", "the derivation",
                                        "what stands around the lent state, the room, the derivation or the row", "what stands around the line",
@@ -117,6 +117,10 @@ uint64_t glintstring_judge_guarded(const uint8_t *request, size_t request_length
 
 uint64_t glintstring_judge_by_cases(const uint8_t *request, size_t request_length, uint8_t *state, size_t state_length, uint32_t budget) {
     return lent_to(JUDGE_BY_CASES, request, request_length, state, state_length, budget);
+}
+
+uint64_t glintstring_judge_values(const uint8_t *request, size_t request_length, uint8_t *state, size_t state_length, uint32_t budget) {
+    return lent_to(JUDGE_VALUES, request, request_length, state, state_length, budget);
 }
 
 uint64_t glintstring_index(const uint8_t *request, size_t request_length, uint8_t *room, size_t room_length) {

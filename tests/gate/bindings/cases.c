@@ -62,6 +62,13 @@ static const uint8_t eleven_lines[196] = {
     3, 3, 5, 7, 0, 2, 0, 255, 2, 1, 1, 0, 2, 1, 2, 1, 0, 0, 0, 1, 7, 3, 2, 0, 2, 0, 9};
 static const uint8_t seven[27] = {7, 1, 0, 0, 1, 0, 0, 7, 0, 0, 0, 1, 0, 2, 0, 3, 0, 4, 0, 5, 0, 6, 0, 1, 0, 0, 0};
 
+/* A traffic light with three colours and an action that looks at it: its colour is known then, and need not be the first. File A with two values for each fluent. */
+static const uint8_t light[17] = {1, 3, 1, 0, 0, 1, 0, 0, 1, 0, 0, 0, 1, 0, 0, 1, 0};
+static const uint8_t first_colour[18] = {1, 3, 1, 0, 0, 1, 0, 0, 1, 0, 0, 0, 1, 0, 1, 0, 0, 0};
+static const uint8_t a_by_values[64] = {4, 2, 2, 2, 2, 3, 3, 1, 1, 2, 2, 3, 1, 3, 1, 1, 0, 0, 1, 3, 0, 1, 0, 0, 2, 2, 0, 0, 3, 0, 0, 1,
+                                        1, 1, 2, 2, 1, 1, 0, 1, 0, 0, 0, 2, 0, 255, 2, 1, 0, 1, 0, 2, 1, 2, 1, 0, 0, 0, 0, 1, 3, 2, 1, 2};
+static const uint8_t says_is_not[8] = {1, 3, 1, 0, 1, 0, 0, 3};
+
 static uint8_t state[GLINTSTRING_STATE_LENGTH];
 static uint8_t room[GLINTSTRING_INDEX_MOST];
 
@@ -95,7 +102,7 @@ static int marked(uint8_t m0, uint8_t m1, uint8_t m2, uint8_t m3) {
 }
 
 static int known(unsigned number) {
-    return number <= 3 || (9 <= number && number <= 22) || (30 <= number && number <= 39) || (43 <= number && number <= 45);
+    return number <= 3 || (9 <= number && number <= 22) || (30 <= number && number <= 39) || (43 <= number && number <= 46);
 }
 
 /* Each number of the format has words of its own, and every other number the same words. */
@@ -237,6 +244,31 @@ int main(void) {
         !marked(GLINTSTRING_UNKNOWN, GLINTSTRING_FALSE, GLINTSTRING_FALSE, GLINTSTRING_FALSE))
         return puts("bindings: 44"), 1;
 
+    /* By values the light is verified, and where the first colour is the goal the state has value 1, the first that misses; an effect that says "is not" and what
+       ends too soon leave all as lent; and File A by values is answered as File A is, with the same state where it opens unseen. */
+    memset(state, 9, sizeof state);
+    if (!is(glintstring_judge_values(light, sizeof light, state, sizeof state, 4), GLINTSTRING_VERIFIED, GLINTSTRING_NEITHER, 0, 4) ||
+        !is(glintstring_judge_values(light, sizeof light, state, sizeof state, 3), GLINTSTRING_BUDGET_SPENT, GLINTSTRING_NEITHER, 0, 3) ||
+        !is(glintstring_judge_values(light, 16, state, sizeof state, 4), GLINTSTRING_INPUT_ENDS, GLINTSTRING_REQUEST, 16, 0) ||
+        !is(glintstring_judge_values(NULL, 0, state, sizeof state, 4), GLINTSTRING_INPUT_ENDS, GLINTSTRING_REQUEST, 0, 0) ||
+        !is(glintstring_judge_values(light, sizeof light, state, 127, 4), GLINTSTRING_STATE_LENGTH_WRONG, GLINTSTRING_NEITHER, 0, 0) ||
+        !is(glintstring_judge_values(a_by_values, sizeof a_by_values, state, sizeof state, 5), GLINTSTRING_VERIFIED, GLINTSTRING_NEITHER, 0, 5) ||
+        !untouched_from(18))
+        return puts("bindings: 53"), 1;
+    answer = glintstring_judge_values(says_is_not, sizeof says_is_not, state, sizeof state, 0);
+    if (!is(answer, GLINTSTRING_SAYS_IS_NOT, GLINTSTRING_REQUEST, 6, 0) || glintstring_show(answer, says_is_not, sizeof says_is_not, NULL, 0) != 6 ||
+        !untouched_from(18))
+        return puts("bindings: 54"), 1;
+    answer = glintstring_judge_values(first_colour, sizeof first_colour, state, sizeof state, 4);
+    if (!is(answer, GLINTSTRING_GOAL_MISSED, GLINTSTRING_REQUEST, 15, 4) || glintstring_show(answer, first_colour, sizeof first_colour, NULL, 0) != 15 ||
+        !marked(1 + 1, 0, 0, 0))
+        return puts("bindings: 55"), 1;
+    memcpy(other, a_by_values, 42);
+    memcpy(other + 42, "\0\1\1\1\3\2\1\2", 8);
+    if (!is(glintstring_judge_values(other, 50, state, sizeof state, 5), GLINTSTRING_GOAL_MISSED, GLINTSTRING_REQUEST, 46, 2) ||
+        !marked(GLINTSTRING_UNKNOWN, 0 + 1, 1 + 1, GLINTSTRING_UNKNOWN))
+        return puts("bindings: 56"), 1;
+
     /* The derivation of File A without its whether entry, in a room that is longer and in one that is just long enough, with just enough budget; the derivation
        call accepts it. A room that is a byte short, no room, and what goes before the room leave all as lent: too small a budget, a whether entry, a goal that is
        missed, an action that can't be run, seven readings at once, and a request that is refused. */
@@ -365,6 +397,6 @@ int main(void) {
     if (!worded())
         return puts("bindings: words"), 1;
 
-    puts("bindings: 78 calls as the format says, and what is shown of their answers");
+    puts("bindings: 87 calls as the format says, and what is shown of their answers");
     return 0;
 }

@@ -100,6 +100,63 @@ static void largest_request(uint8_t *to, unsigned *place) {
         puts("lengths: the largest request has another length");
 }
 
+/* A list of literals by values: fluent 0 is 0, fluent 1 is 0, fluent 2 is 0 and so on. */
+static uint8_t *value_list(uint8_t *to, unsigned count) {
+    unsigned i;
+    *to++ = (uint8_t)count;
+    for (i = 0; i < count; i++) {
+        *to++ = (uint8_t)i;
+        *to++ = 0;
+    }
+    return to;
+}
+
+/*
+ * The same by values, of which each of the 128 fluents has 16: 255 effects and 100 executability lines of one action, each with 16 literals, and a plan of 13
+ * branchings. The first of these can't be run: 2, at the place that is stored, as is that of the last effect's literal.
+ */
+static void largest_values_request(uint8_t *to, unsigned *place, unsigned *effect) {
+    const uint8_t *const start = to;
+    unsigned i, branch, bit;
+    *to++ = 128;
+    memset(to, GLINTSTRING_MOST_VALUES, 128);
+    to += 128;
+    *to++ = 1;
+    *to++ = 0;
+    *to++ = 255;
+    for (i = 0; i < 255; i++) {
+        *to++ = 0;
+        *effect = (unsigned)(to - start);
+        *to++ = 127;
+        *to++ = 0;
+        to = value_list(to, 16);
+    }
+    *to++ = 100;
+    for (i = 0; i < 100; i++) {
+        *to++ = 0;
+        to = value_list(to, 16);
+    }
+    *to++ = 0;
+    *to++ = 0;
+    *to++ = 13;
+    *place = (unsigned)(to - start);
+    for (i = 0; i < 13; i++) {
+        *to++ = 255;
+        *to++ = 8;
+        for (branch = 0; branch < 8; branch++) {
+            to = value_list(to, 16);
+            for (bit = 0; bit < 3; bit++)
+                to[2 * (int)bit - 5] = (uint8_t)(2 * (branch >> bit & 1));
+            *to++ = 0;
+            *to++ = 0;
+        }
+    }
+    *to++ = 0;
+    *to++ = 0;
+    if (to - start != GLINTSTRING_REQUEST_LIMIT)
+        puts("lengths: the largest values request has another length");
+}
+
 /* One fluent more than there are facts, 13 facts of which the first are goals, so many, and the empty plan. */
 static size_t derived_request(uint8_t *to, unsigned goals) {
     uint8_t *end = to;
@@ -189,7 +246,7 @@ static int asked(asking ask, const uint8_t *largest, unsigned number, unsigned p
     return ask(NULL, 0, GLINTSTRING_INPUT_ENDS, 0) && ask(request_room - 1, 0, GLINTSTRING_INPUT_ENDS, 0);
 }
 
-/* The walk call, the guarded call, the call by cases, or the indexed call by an index. */
+/* The walk call, the guarded call, the call by cases, the values call, or the indexed call by an index. */
 typedef uint64_t (*walk_call)(const uint8_t *, size_t, uint8_t *, size_t, uint32_t);
 static walk_call walk;
 
@@ -260,6 +317,17 @@ static int by_cases(void) {
     bytes[place] = 0;
     return walked(glintstring_judge_by_cases, request, GLINTSTRING_NOT_EXECUTABLE, place) &&
            walked(glintstring_judge_by_cases, bytes, GLINTSTRING_TOO_MANY_CASES, place);
+}
+
+/* By values: the largest values request, which stops at its first branching, and with an effect that says "is not". */
+static int by_values(void) {
+    static uint8_t bytes[GLINTSTRING_REQUEST_LIMIT + 1];
+    unsigned place = 0, effect = 0;
+    largest_values_request(bytes, &place, &effect);
+    if (!walked(glintstring_judge_values, bytes, GLINTSTRING_NOT_EXECUTABLE, place))
+        return 0;
+    bytes[effect + 1] = 31;
+    return walked(glintstring_judge_values, bytes, GLINTSTRING_SAYS_IS_NOT, effect);
 }
 
 /* The index of the largest request where that has 128 actions, which is as long as any: all lines are those of action 0. */
@@ -512,7 +580,7 @@ int main(void) {
     state_room = stretch();
     line_room = stretch();
     memset(as_lent, LENT, ROOM);
-    if (!request_room || !derivation_room || !state_room || !line_room || !judged() || !guarded() || !by_cases() || !indexed() ||
+    if (!request_room || !derivation_room || !state_room || !line_room || !judged() || !guarded() || !by_cases() || !by_values() || !indexed() ||
         !derived() || !checked(glintstring_check, 0) || !checked(glintstring_check_whether, 1) || !released() || !shown())
         return 1;
     printf("lengths: %lu calls at the ends of their lengths, lent states of 0 to %d bytes, rows of 0 to %d numbers and rooms of 0 to %d bytes\n", calls, STATES,

@@ -2,6 +2,7 @@
 //   driver walk BUDGET <REQUEST                     the walk call
 //   driver guarded BUDGET <GUARDED REQUEST          the guarded call
 //   driver by-cases BUDGET <REQUEST                 the call by cases
+//   driver values BUDGET <VALUES REQUEST            the values call
 //   driver indexed BUDGET <REQUEST                  the indexed call, with the index that the index call writes
 //   driver index 0 <REQUEST                         the index call, with room enough
 //   driver derive BUDGET <REQUEST                   the derive call, with room for every derivation
@@ -27,6 +28,7 @@ struct slice {
 u64 proved_judge(const struct slice *request, const struct slice *lent, u32 budget);
 u64 proved_guarded(const struct slice *request, const struct slice *lent, u32 budget);
 u64 proved_by_cases(const struct slice *request, const struct slice *lent, u32 budget);
+u64 proved_values(const struct slice *request, const struct slice *lent, u32 budget);
 u64 proved_indexed(const struct slice *request, const struct slice *index, const struct slice *lent, u32 budget);
 u64 proved_index(const struct slice *request, const struct slice *room);
 u64 proved_derive(const struct slice *request, const struct slice *room, u32 budget);
@@ -118,7 +120,7 @@ static byte written[32768];
 static u32 row[4 * 255];
 
 _Noreturn __attribute__((used)) static void begin(long *arguments) {
-    if (arguments[0] != 3) fail("driver: two arguments, walk, guarded, by-cases, indexed, derive or release and the budget, check or whether and the request's length, or index or plans and 0\n");
+    if (arguments[0] != 3) fail("driver: two arguments, walk, guarded, by-cases, values, indexed, derive or release and the budget, check or whether and the request's length, or index or plans and 0\n");
     const char *command = (const char *)arguments[2];
     u64 number = 0;
     for (const char *digit = (const char *)arguments[3]; *digit; digit++) {
@@ -149,6 +151,8 @@ _Noreturn __attribute__((used)) static void begin(long *arguments) {
         answer = call_at(stack + WORDS, proved_guarded, &request, &lent, number, 0);
     } else if (is_word(command, "by-cases")) {
         answer = call_at(stack + WORDS, proved_by_cases, &request, &lent, number, 0);
+    } else if (is_word(command, "values")) {
+        answer = call_at(stack + WORDS, proved_values, &request, &lent, number, 0);
     } else if (is_word(command, "indexed")) {
         room.length = proved_index(&request, &room) >> 32;
         answer = call_at(stack + WORDS, proved_indexed, &request, &room, (u64)&lent, number);

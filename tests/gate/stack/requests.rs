@@ -3,8 +3,9 @@
 //! `whether` for the closing layout), with the request's file, the derivation's, its number of lines and what it is; release files, and a
 //! list of these (`releases`), with the file's name, the budget, the number of plans and what it is; guarded requests, and a list of these
 //! (`guarded`), with the file's name, the budget, the number of guards and what it is; requests to be walked by cases, and a list of these
-//! (`by-cases`), with the file's name, the budget, the most open fluents that an action has and what it is; and requests whose derivations go deepest, and a
-//! list of these (`to-derive`), with the file's name, the budget, the number of items and what it is.
+//! (`by-cases`), with the file's name, the budget, the most open fluents that an action has and what it is; values requests, and a list of these (`values`), with
+//! the file's name, the budget, the number of values that each fluent has and what it is; and requests whose derivations go deepest, and a list of these
+//! (`to-derive`), with the file's name, the budget, the number of items and what it is.
 
 use std::ops::Range;
 use std::{env, fs};
@@ -262,6 +263,104 @@ fn requests_by_cases(folder: &str, requests: &[Deep], tries: &[(&str, Vec<Item>)
     fs::write(format!("{folder}/by-cases"), lines).expect("a file written");
 }
 
+/// A request said by values, of which each fluent has so many: true is the value 0, and false the value 1. In a condition false is the last value, and true that a
+/// fluent has another.
+struct ByValues<'a> {
+    request: &'a [u8],
+    values: u8,
+    said: Vec<u8>,
+}
+
+impl ByValues<'_> {
+    fn byte(&mut self) -> u8 {
+        let (byte, rest) = self.request.split_first().expect("a byte of a request");
+        self.request = rest;
+        self.said.push(*byte);
+        *byte
+    }
+
+    /// A literal, whose fluent is followed by what says so if it is true, and if it is false.
+    fn literal(&mut self, says: [u8; 2]) {
+        let literal = self.byte();
+        self.said.pop();
+        self.said.extend([literal / 2, says[usize::from(literal % 2)]]);
+    }
+
+    fn literals(&mut self, says: [u8; 2]) {
+        for _ in 0..self.byte() {
+            self.literal(says);
+        }
+    }
+
+    fn items(&mut self) {
+        let count = u16::from_be_bytes([self.byte(), self.byte()]);
+        for _ in 0..count {
+            if self.byte() == 255 {
+                for _ in 0..self.byte() {
+                    let last = 2 * (self.values - 1);
+                    self.literals([last + 1, last]);
+                    self.items();
+                }
+            }
+        }
+    }
+}
+
+/// So many values for each fluent of a request.
+fn by_values(request: &[u8], values: u8) -> Vec<u8> {
+    const SAYS: [u8; 2] = [0, 2];
+    let mut by = ByValues { request, values, said: Vec::new() };
+    let fluents = by.byte();
+    by.said.extend(vec![values; fluents.into()]);
+    by.byte();
+    by.literals(SAYS);
+    for _ in 0..by.byte() {
+        by.byte();
+        by.literal(SAYS);
+        by.literals(SAYS);
+    }
+    for _ in 0..by.byte() {
+        by.byte();
+        by.literals(SAYS);
+    }
+    for _ in 0..by.byte() {
+        by.byte();
+        by.byte();
+    }
+    by.items();
+    by.literals(SAYS);
+    for _ in 0..by.byte() {
+        by.byte();
+    }
+    assert!(by.request.is_empty() && by.said.len() <= 16384, "beyond the limits");
+    by.said
+}
+
+/// As many readings as a path can go through in a short values request: so many fluents are looked at and made unknown again, and there is one more.
+fn short_by_values(values: u8) -> Vec<u8> {
+    const LOOKED_AT: u8 = 57;
+    let effects = section((0..LOOKED_AT).map(|f| [FORGET, 2 * f + 1, 1, 2 * LOOKED_AT]));
+    let knowledge = section((0..LOOKED_AT).map(|f| [LOOK, f]));
+    let table = [vec![LOOKED_AT + 1, 2, 0], effects, section([[LOOK, 0], [FORGET, 0]]), knowledge].concat();
+    let whole = |items: &[Item]| by_values(&[&table[..], &sequence(items), &[0, 0]].concat(), values);
+    let bytes = whole(&over_and_over(&[act(LOOK), act(FORGET)], SHORT - whole(&[]).len()));
+    assert_eq!(bytes.len(), SHORT, "a short values request");
+    bytes
+}
+
+/// Values requests: the deepest, with as few values as a fluent may have and with as many, and a short one.
+fn values_requests(folder: &str, requests: &[Deep]) {
+    let mut lines = String::new();
+    let said = |values| requests.iter().map(move |(name, budget, forgets, goals, plan)| (*name, *budget, by_values(&request(*forgets, *goals, plan), values), values));
+    let short = [2, 16].map(|values| ("57 looked at, forgotten, in 1,024 bytes", SOON, short_by_values(values), values));
+    for (number, (name, budget, bytes, values)) in said(2).chain(said(16)).chain(short).enumerate() {
+        let file = format!("{number}.values");
+        fs::write(format!("{folder}/{file}"), bytes).expect("a file written");
+        lines += &format!("{file} {budget} {values} {name}, {values} values\n");
+    }
+    fs::write(format!("{folder}/values"), lines).expect("a file written");
+}
+
 /// Requests that are verified, and whose derivations go deepest. They are walked to the end, so what is looked at forks again on the first path only.
 fn requests_to_derive(folder: &str) {
     let looks = |most| over_and_over(&[act(LOOK_AT_SIX), act(FORGET_SIX)], most);
@@ -349,6 +448,7 @@ fn main() {
         ("84 looked at, forgotten, at last 12 open, in 1,024 bytes", short_tries(left + 2)),
     ];
     requests_by_cases(&folder, &requests[..5], &tries);
+    values_requests(&folder, &requests[..6]);
     requests_to_derive(&folder);
     releases(&folder, &[&requests[..5], &[short_file]].concat());
     for (number, (name, budget, forgets, goals, plan)) in requests.into_iter().enumerate() {

@@ -14,39 +14,39 @@ Inv-loop fd row count i₀ i = i ≤ format .fluents
 abbrev μ-loop : tie.MeasureT-loop
 μ-loop fd row count i₀ i = format .fluents - i
 
--- src/lib.rt:298:5
+-- src/lib.rt:324:5
 loop-holds : tie.Need-loop-holds Inv-loop μ-loop
 loop-holds c = search needs
 
--- src/lib.rt:302:27
+-- src/lib.rt:328:27
 element-copy-out-put-apart : tie.Need-element-copy-out-put-apart Inv-loop μ-loop
 element-copy-out-put-apart c = search needs
 
--- src/lib.rt:302:13
+-- src/lib.rt:328:13
 put-apart-requires : tie.Need-put-apart-requires Inv-loop μ-loop
 put-apart-requires c κs = search needs
 
--- src/lib.rt:303:13
+-- src/lib.rt:329:13
 returns : tie.Need-returns Inv-loop μ-loop
 returns c = search needs
 
--- src/lib.rt:305:9
+-- src/lib.rt:331:9
 add-i : tie.Need-add-i Inv-loop μ-loop
 add-i c = search needs
 
--- src/lib.rt:298:5
+-- src/lib.rt:324:5
 loop-less : tie.Need-loop-less Inv-loop μ-loop
 loop-less c = search needs
 
--- src/lib.rt:298:5
+-- src/lib.rt:324:5
 loop-again : tie.Need-loop-again Inv-loop μ-loop
 loop-again c = search needs
 
--- src/lib.rt:296:1
+-- src/lib.rt:322:1
 returns-2 : tie.Need-returns-2 Inv-loop μ-loop
 returns-2 c = search needs
 
--- src/lib.rt:296:1
+-- src/lib.rt:322:1
 returns-3 : tie.Need-returns-3 Inv-loop μ-loop
 returns-3 c = search needs
 

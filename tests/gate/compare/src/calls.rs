@@ -101,7 +101,7 @@ pub fn timed_and_named(rng: &mut Rng, call: &Call, judge: &Judge, unpack: fn(Pac
     let answer = numbers(packed);
     let named = std::panic::catch_unwind(|| unpack(packed, &lent)).map_err(|_| format!("{answer:?} is no answer"))?;
     let told = [named.number().into(), named.input().into(), named.place() as u64, named.count().into()];
-    let wrote = named.state().is_none_or(|state| state.bytes() == lent[..]);
+    let wrote = named.state().is_none_or(|state| state.bytes() == lent[..]) && named.values().is_none_or(|values| values.bytes() == lent[..]);
     if told != answer || !wrote {
         return Err(format!("answer {answer:?} is named {named}"));
     }

@@ -8,7 +8,7 @@ use oracle::text::{parse_bytes, state_line};
 
 use crate::calls::{agreed, expect, Call, Left};
 use crate::checks::{self, Check};
-use crate::{by_cases_rows, derive_rows, guarded_cases, index_rows, release_cases, whether_cases};
+use crate::{by_cases_rows, derive_rows, guarded_cases, index_rows, release_cases, values_rows, whether_cases};
 
 pub const FILE_A: &str = "4 3 3 3 5 7 3 1 2 0 1 6 1 0 2 4 0 3 0 0 1 1 3 2 1 2 1 0 0 0 2 0 255 2 1 1 0 2 1 2 1 0 0 0 1 7 1 2";
 const BUDGET: u32 = 100_000;
@@ -21,6 +21,7 @@ extern "C" {
     fn glintstring_judge_guarded(request: *const u8, request_length: usize, state: *mut u8, state_length: usize, budget: u32) -> u64;
     fn glintstring_judge_by_cases(request: *const u8, request_length: usize, state: *mut u8, state_length: usize, budget: u32) -> u64;
     fn glintstring_judge_indexed(request: *const u8, request_length: usize, index: *const u8, index_length: usize, state: *mut u8, state_length: usize, budget: u32) -> u64;
+    fn glintstring_judge_values(request: *const u8, request_length: usize, state: *mut u8, state_length: usize, budget: u32) -> u64;
     fn glintstring_index(request: *const u8, request_length: usize, room: *mut u8, room_length: usize) -> u64;
     fn glintstring_derive(request: *const u8, request_length: usize, out: *mut u8, out_length: usize, budget: u32) -> u64;
     fn glintstring_judge_line(request: *const u8, request_length: usize, state: *mut u8, state_length: usize, budget: u32, line: *mut u32) -> u64;
@@ -340,6 +341,10 @@ fn without_bytes() -> Result<(), String> {
     if by_cases != [no_request, no_state] {
         return Err(format!("null and length 0: {by_cases:?} by cases"));
     }
+    let by_values = unsafe { [glintstring_judge_values(null(), 0, state.as_mut_ptr(), state.len(), 0), glintstring_judge_values(null(), 0, null_mut(), 0, 0)] };
+    if by_values != [no_request, no_state] {
+        return Err(format!("null and length 0: {by_values:?} by values"));
+    }
     without_index()?;
     without_derivation()?;
     if ([no_request_line, no_state_line], lines) != ([no_request, no_state], [0, 0]) {
@@ -453,13 +458,14 @@ pub fn compare() -> Result<String, String> {
     let releases = release_cases::compare(&mut rng)?;
     let guarded = guarded_cases::compare(&mut rng)?;
     let by_cases = by_cases_rows::compare(&mut rng)?;
+    let values = values_rows::compare(&mut rng)?;
     let indexed = index_rows::compare(&mut rng)?;
     let derived = derive_rows::compare(&mut rng)?;
     without_bytes()?;
     let (lines, checks) = (LINE_ROWS.len(), DERIVATION_ROWS.len());
     Ok(format!(
         "{walks} rows of the format, {lines} for the line, {checks} for derivations, {whether} for those in the closing layout, {releases} for release \
-         files, {guarded} for guarded requests, {by_cases} by cases, {indexed} for indexes and {derived} for writing derivations answered as it says, and null pointers \
+         files, {guarded} for guarded requests, {by_cases} by cases, {values} for values, {indexed} for indexes and {derived} for writing derivations answered as it says, and null pointers \
          with length 0"
     ))
 }

@@ -10,7 +10,7 @@ use oracle::rng::Rng;
 
 use crate::calls::{expect, exported, independent, Call, Left};
 use crate::indexes::Indexed;
-use crate::{by_cases, derives, guarded, indexes};
+use crate::{by_cases, derives, guarded, indexes, values};
 
 /// The requests of a folder, of which the file `list` has a line each: file, budget, items, name.
 pub fn requests(folder: &str) -> Result<Vec<(String, Call)>, String> {
@@ -25,6 +25,11 @@ pub fn guarded_requests(folder: &str) -> Result<Vec<(String, Call)>, String> {
 /// The requests by cases, of which the file `by-cases` has a line each: file, budget, open fluents, name.
 pub fn requests_by_cases(folder: &str) -> Result<Vec<(String, Call)>, String> {
     listed(folder, "by-cases")
+}
+
+/// The values requests, of which the file `values` has a line each: file, budget, values of each fluent, name.
+pub fn values_requests(folder: &str) -> Result<Vec<(String, Call)>, String> {
+    listed(folder, "values")
 }
 
 /// The requests whose derivations go deepest, of which the file `to-derive` has a line each: file, budget, items, name.
@@ -84,11 +89,12 @@ pub fn compare(folder: &str) -> Result<String, String> {
     let all = agreed(&requests(folder)?, 1, both, independent)?;
     let guards = agreed(&guarded_requests(folder)?, 2, guarded::timed, guarded::independent)?;
     let cases = agreed(&requests_by_cases(folder)?, 3, by_cases::timed, by_cases::independent)?;
+    let valued = agreed(&values_requests(folder)?, 7, values::timed, values::independent)?;
     let indexed = agreed(&by_index, 4, indexes::timed, indexes::independent)?;
     let to_derive: Vec<(String, Call)> = requests_to_derive(folder)?.into_iter().map(with_room).collect();
     let derived = agreed(&to_derive, 5, derives::timed, derives::independent)?;
     let stack = glintstring::STACK_NEEDED;
     Ok(format!(
-        "{all} deep requests, {guards} guarded ones, {cases} by cases, {indexed} with an index and {derived} to derive agree, on a thread of {stack} bytes of stack"
+        "{all} deep requests, {guards} guarded ones, {cases} by cases, {valued} with values, {indexed} with an index and {derived} to derive agree, on a thread of {stack} bytes of stack"
     ))
 }

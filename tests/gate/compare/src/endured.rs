@@ -12,7 +12,7 @@ use crate::calls::{self, expect, Call, Left};
 use crate::checks::Layout;
 use crate::hostile::{self, Input, Named};
 use crate::indexes::Indexed;
-use crate::{by_cases, checks, derivations, derives, generated, guarded, indexes, releases, whether};
+use crate::{by_cases, checks, derivations, derives, generated, guarded, indexes, releases, values, whether};
 
 /// What a call may take, and what it may take for each count more: far more than was ever seen (docs/MEASURED.md).
 const A: Duration = Duration::from_secs(1);
@@ -63,6 +63,7 @@ fn call(rng: &mut Rng, input: &Input) -> Result<Taken, String> {
         Input::Walk(call) => agreed(calls::timed(rng, call)?, calls::independent(call), B),
         Input::ByCases(call) => agreed(by_cases::timed(rng, call)?, by_cases::independent(call), B_BY_CASES),
         Input::Guarded(call) => agreed(guarded::timed(rng, call)?, guarded::independent(call), B),
+        Input::Values(call) => agreed(values::timed(rng, call)?, values::independent(call), B),
         Input::Index(call) => {
             // The length of the index is no count.
             let taken = agreed(indexes::built(rng, call)?, indexes::independently_built(call), B)?;
@@ -189,7 +190,7 @@ pub fn write(deepest: &str, folder: &str, budget: u32, count: u64) -> Result<Str
     inputs.extend((0..count).map(|index| Input::Derivation(whether::call(1, index))));
     inputs.extend((0..count).map(|index| Input::Indexed(indexes::call(1, index).indexed)));
     // The programs for which files are written take requests, guarded or not, with an index or without, and derivations.
-    inputs.retain(|input| !matches!(input, Input::Release(_) | Input::ByCases(_) | Input::Index(_) | Input::Derive(_)));
+    inputs.retain(|input| !matches!(input, Input::Release(_) | Input::ByCases(_) | Input::Values(_) | Input::Index(_) | Input::Derive(_)));
     let save = |name: String, bytes: &[u8]| fs::write(format!("{folder}/{name}"), bytes).map_err(|error| format!("{folder}/{name}: {error}"));
     let [mut walks, mut guards, mut indexed, mut plain, mut closing] = std::array::from_fn(|_| Written::default());
     for (index, input) in inputs.iter_mut().enumerate() {
@@ -216,7 +217,7 @@ pub fn write(deepest: &str, folder: &str, budget: u32, count: u64) -> Result<Str
                 indexed.add(&format!("{folder}/{index}.request {folder}/{index}.index"), indexes::independently_built(&room).answer);
                 indexed.expect(indexes::independent(call).answer);
             }
-            Input::Release(_) | Input::ByCases(_) | Input::Index(_) | Input::Derive(_) => unreachable!("no such file is written"),
+            Input::Release(_) | Input::ByCases(_) | Input::Values(_) | Input::Index(_) | Input::Derive(_) => unreachable!("no such file is written"),
         }
     }
     for (name, written) in [("walks", walks), ("guarded", guards), ("indexed", indexed), ("checks", plain), ("whether", closing)] {

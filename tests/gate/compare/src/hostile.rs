@@ -14,7 +14,7 @@ use crate::deepest;
 use crate::indexes::Indexed;
 use crate::largest::{self, line};
 use crate::releases::Release;
-use crate::{by_cases_hostile, derive_hostile, guarded_hostile, index_hostile, release_hostile, whether_hostile};
+use crate::{by_cases_hostile, derive_hostile, guarded_hostile, index_hostile, release_hostile, values_hostile, whether_hostile};
 
 /// The stream of random numbers of the bytes that have no meaning.
 const BYTES: u64 = 10;
@@ -33,6 +33,7 @@ pub enum Input {
     Walk(Call),
     Guarded(Call),
     ByCases(Call),
+    Values(Call),
     /// An index call, whose room is the lent bytes.
     Index(Call),
     Indexed(Indexed),
@@ -71,6 +72,7 @@ pub fn named(folder: &str) -> Result<Vec<Named>, String> {
     inputs.extend(release_hostile::named(&releases));
     inputs.extend(guarded_hostile::named(deepest::guarded_requests(folder)?));
     inputs.extend(by_cases_hostile::named(deepest::requests_by_cases(folder)?));
+    inputs.extend(values_hostile::named(deepest::values_requests(folder)?));
     inputs.extend(index_hostile::named(deepest::requests(folder)?));
     inputs.extend(derive_hostile::named(deepest::requests(folder)?, deepest::requests_to_derive(folder)?));
     Ok(inputs)
@@ -81,8 +83,8 @@ pub fn longest() -> Vec<Named> {
     sensed_at_once(&[LARGEST_BUDGET])
 }
 
-/// Any bytes, as a request, guarded, by cases, with an index, to derive or none of these, as an index, as a derivation in either layout and as a release file; those of
-/// every other start as their input may.
+/// Any bytes, as a request, guarded, by cases, with an index, to derive or none of these, as a values request, as an index, as a derivation in either layout and as a release
+/// file; those of every other start as their input may.
 pub fn random(seed: u64, count: u64) -> Vec<Named> {
     let mut inputs = Vec::new();
     for index in 0..count {
@@ -112,6 +114,9 @@ pub fn random(seed: u64, count: u64) -> Vec<Named> {
         inputs.push(release_hostile::release(&format!("random plans {index}"), plans, FEW));
         let ninth = [encode_request(&wide()).bytes, bytes(rng, REQUEST_LIMIT / 2, [64, 0])].concat();
         inputs.push(guarded_hostile::guarded(&format!("random guards {index}"), ninth, FEW));
+        let valued = bytes(rng, REQUEST_LIMIT, [1, 0]);
+        let valued = if index % 2 == 0 { values_hostile::after_sizes(&valued) } else { valued };
+        inputs.push(values_hostile::values(&format!("random request {index}"), valued, FEW));
     }
     inputs
 }

@@ -1,6 +1,6 @@
 //! The exported calls against the independent program: the walk call on the format's cases, on the deepest requests, and on generated and
 //! damaged ones, the derivation call, the whether call and the showing call on derivations at their limits, and on generated, forged and
-//! damaged ones; the release call and the plans call on release files; the guarded call; the call by cases; the index call
+//! damaged ones; the release call and the plans call on release files; the guarded call; the call by cases; the values call; the index call
 //! and the indexed call; the derive call; and all of them on hostile inputs. The exit status is 0 where all agree and 1 at the first difference; what is told of it is
 //! enough to make the call again.
 
@@ -33,6 +33,9 @@ mod release_cases;
 mod release_hostile;
 mod releases;
 mod spoiled;
+mod values;
+mod values_hostile;
+mod values_rows;
 mod whether;
 mod whether_cases;
 mod whether_hostile;
@@ -47,7 +50,7 @@ use words::{number, obey, Failure};
 const STACK: usize = glintstring::STACK_NEEDED + (2 << 20);
 
 const HELP: &str = "usage: compare cases | compare deepest FOLDER | compare generated SEED COUNT | compare largest | compare derivations SEED COUNT \
-                    | compare whether SEED COUNT | compare releases SEED COUNT | compare guarded SEED COUNT | compare by-cases SEED COUNT | compare indexes SEED COUNT | compare derives SEED COUNT | compare hostile FOLDER [SLOWER] | compare longest | compare write DEEPEST FOLDER BUDGET COUNT";
+                    | compare whether SEED COUNT | compare releases SEED COUNT | compare guarded SEED COUNT | compare by-cases SEED COUNT | compare values SEED COUNT | compare indexes SEED COUNT | compare derives SEED COUNT | compare hostile FOLDER [SLOWER] | compare longest | compare write DEEPEST FOLDER BUDGET COUNT";
 
 fn main() -> ExitCode {
     obey("compare", STACK, |words| {
@@ -61,6 +64,7 @@ fn main() -> ExitCode {
             ["releases", seed, count] => releases::compare(number(seed)?, number(count)?),
             ["guarded", seed, count] => guarded::compare(number(seed)?, number(count)?),
             ["by-cases", seed, count] => by_cases::compare(number(seed)?, number(count)?),
+            ["values", seed, count] => values::compare(number(seed)?, number(count)?),
             ["indexes", seed, count] => indexes::compare(number(seed)?, number(count)?),
             ["derives", seed, count] => derives::compare(number(seed)?, number(count)?),
             ["hostile", folder] => endured::compare(Some(folder), 1),

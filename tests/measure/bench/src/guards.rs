@@ -55,15 +55,15 @@ fn half_known() -> Request {
     }
 }
 
-fn actions(_: &mut Rng) -> Request {
+pub fn actions(_: &mut Rng) -> Request {
     Request { plan: vec![Item::act(1); ITEM_LIMIT], ..half_known() }
 }
 
-fn looking(_: &mut Rng) -> Request {
+pub fn looking(_: &mut Rng) -> Request {
     Request { plan: vec![Item::act(0)], ..half_known() }
 }
 
-fn branchings(_: &mut Rng) -> Request {
+pub fn branchings(_: &mut Rng) -> Request {
     let follow = Item::case(vec![Branch { condition: Vec::new(), sequence: Vec::new() }]);
     Request { plan: [vec![Item::act(0)], vec![follow; ITEM_LIMIT - 1]].concat(), ..half_known() }
 }

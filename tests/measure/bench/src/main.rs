@@ -1,5 +1,5 @@
-//! The exported calls timed beside two walks in Rust, on the same requests within one run; the release call, the guarded call, the call by cases, the index call,
-//! the indexed call and the derive call timed beside walk calls; and the two walks against the independent program.
+//! The exported calls timed beside two walks in Rust, on the same requests within one run; the release call, the guarded call, the call by cases, the values call,
+//! the index call, the indexed call and the derive call timed beside walk calls; and the two walks against the independent program.
 
 mod answers;
 mod best;
@@ -28,6 +28,7 @@ mod many;
 mod plain;
 mod programs;
 mod releases;
+mod values;
 mod walks;
 mod whether;
 #[path = "../../../gate/compare/src/words.rs"]
@@ -41,7 +42,7 @@ use words::{number, obey, Failure};
 const STACK: usize = 256 << 20;
 
 const HELP: &str = "usage: bench check SEED COUNT | bench walks SEED ROUNDS COUNT | bench derivations SEED ROUNDS | bench releases SEED ROUNDS | \
-     bench guards SEED ROUNDS | bench by-cases SEED ROUNDS | bench index SEED ROUNDS | bench derives SEED ROUNDS | bench only-index walk|indexed|index ROW COUNT PASSES | bench only PROGRAM CLASS whole|reading COUNT PASSES";
+     bench guards SEED ROUNDS | bench by-cases SEED ROUNDS | bench values SEED ROUNDS | bench index SEED ROUNDS | bench derives SEED ROUNDS | bench only-index walk|indexed|index ROW COUNT PASSES | bench only PROGRAM CLASS whole|reading COUNT PASSES";
 
 fn main() -> ExitCode {
     obey("bench", STACK, |words| {
@@ -52,6 +53,7 @@ fn main() -> ExitCode {
             ["releases", seed, rounds] => releases::time(number(seed)?, number(rounds)?),
             ["guards", seed, rounds] => guards::time(number(seed)?, number(rounds)?),
             ["by-cases", seed, rounds] => by_cases::time(number(seed)?, number(rounds)?),
+            ["values", seed, rounds] => values::time(number(seed)?, number(rounds)?),
             ["index", seed, rounds] => indexes::time(number(seed)?, number(rounds)?),
             ["derives", seed, rounds] => derives::time(number(seed)?, number(rounds)?),
             ["only-index", way, name, count, passes] => indexes::only(way, name, number(count)?, number(passes)?),

@@ -9,7 +9,7 @@ use crate::derivations::any_check;
 use crate::generated::any_call;
 use crate::indexes::{self, Both, Indexed};
 use crate::releases::{self, Release};
-use crate::{by_cases, by_cases_rows, cases, derive_rows, derives, guarded, guarded_cases, index_rows, release_cases, whether, whether_cases};
+use crate::{by_cases, by_cases_rows, cases, derive_rows, derives, guarded, guarded_cases, index_rows, release_cases, values, values_rows, whether, whether_cases};
 
 /// A derivation call where this bit is set; the number is the length of the request, and the derivation follows it.
 const DERIVATION: u8 = 1;
@@ -27,6 +27,8 @@ const BY_CASES: u8 = 32;
 const INDEXED: u8 = GUARDED | BY_CASES;
 /// A derive call, where both are set. Two bytes more have the length of the room, and the request follows them.
 const DERIVE: u8 = GUARDED | DERIVATION;
+/// A values call, where both are set and that of a guarded call is not.
+const VALUES: u8 = RELEASE | DERIVATION;
 /// In a call that walks: a budget of up to 16,383 instead of 255.
 const FAR: u8 = 2;
 /// The lent state, or the row, has the number modulo `LENGTHS` as its length where these are all set, and its own otherwise.
@@ -43,12 +45,14 @@ const GUARDS: u64 = 22;
 const CASES: u64 = 27;
 const INDEXES: u64 = 35;
 const DERIVES: u64 = 40;
+const VALUED: u64 = 61;
 
 /// A call to be made both ways.
 pub enum Given {
     Walk(Call),
     Guarded(Call),
     ByCases(Call),
+    Values(Call),
     Indexed(Both),
     Derive(Call),
     Derivation(Check),
@@ -66,6 +70,12 @@ pub fn given(input: &[u8]) -> Given {
         let (length, request) = length_first(rest);
         return Given::Derive(Call { request: request.to_vec(), lent: vec![9; length], budget: budget.into() });
     }
+    let odd = (kind & ODD_LENGTH == ODD_LENGTH).then_some(usize::from(number) % LENGTHS);
+    let length = odd.unwrap_or(STATE_LENGTH);
+    let call = |request: &[u8]| Call { request: request.to_vec(), lent: vec![9; length], budget: budget.into() };
+    if kind & VALUES == VALUES {
+        return Given::Values(call(rest));
+    }
     if kind & DERIVATION != 0 {
         let (request, derivation) = rest.split_at(rest.len().min(number.into()));
         let (request, derivation) = (request.to_vec(), derivation.to_vec());
@@ -74,13 +84,10 @@ pub fn given(input: &[u8]) -> Given {
             _ => Check::closing(request, derivation),
         });
     }
-    let odd = (kind & ODD_LENGTH == ODD_LENGTH).then_some(usize::from(number) % LENGTHS);
     if kind & RELEASE != 0 {
         let length = odd.unwrap_or_else(|| 4 * oracle::plans(rest).max(1) as usize);
         return Given::Release(Release { file: rest.to_vec(), lent: vec![9; length], budget: budget.into() });
     }
-    let length = odd.unwrap_or(STATE_LENGTH);
-    let call = |request: &[u8]| Call { request: request.to_vec(), lent: vec![9; length], budget: budget.into() };
     match kind & INDEXED {
         0 => Given::Walk(call(rest)),
         BY_CASES => Given::ByCases(call(rest)),
@@ -101,7 +108,7 @@ fn length_first(bytes: &[u8]) -> (usize, &[u8]) {
     }
 }
 
-/// An input for a walk call, or with the bit of a guarded call or of a call by cases for that; a larger budget becomes the largest that there is.
+/// An input for a walk call, or with the bits of a guarded call, of a call by cases or of a values call for that; a larger budget becomes the largest that there is.
 fn of_call(call: &Call, bit: u8) -> Vec<u8> {
     let (kind, number) = match (call.lent.len(), call.budget) {
         (STATE_LENGTH, 0..=255) => (0, call.budget as u16),
@@ -156,6 +163,8 @@ pub fn seeds(seed: u64, count: u64) -> Vec<Vec<u8>> {
     let guards = guarded_cases::calls().into_iter().chain(guards).map(|call| of_call(&call, GUARDED));
     let by_cases = (0..count).map(|index| by_cases::any_call(&mut Rng::new(seed, CASES, index)));
     let by_cases = by_cases_rows::calls().into_iter().chain(by_cases).map(|call| of_call(&call, BY_CASES));
+    let valued = (0..count).map(|index| values::any_call(&mut Rng::new(seed, VALUED, index)));
+    let valued = values_rows::calls().into_iter().chain(valued).map(|call| of_call(&call, VALUES));
     let indexed = (0..count).map(|index| indexes::any_call(&mut Rng::new(seed, INDEXES, index)));
     let indexed = index_rows::calls().into_iter().chain(indexed).map(|both| of_indexed(&both));
     let derives = (0..count).map(|index| derives::any_call(&mut Rng::new(seed, DERIVES, index)));
@@ -168,6 +177,7 @@ pub fn seeds(seed: u64, count: u64) -> Vec<Vec<u8>> {
         .chain(releases)
         .chain(guards)
         .chain(by_cases)
+        .chain(valued)
         .chain(indexed)
         .chain(derives)
         .filter(|input| input.len() <= LONGEST)

@@ -58,6 +58,12 @@ mod releases;
 #[path = "../../../gate/compare/src/spoiled.rs"]
 mod spoiled;
 #[allow(dead_code)]
+#[path = "../../../gate/compare/src/values.rs"]
+mod values;
+#[allow(dead_code)]
+#[path = "../../../gate/compare/src/values_rows.rs"]
+mod values_rows;
+#[allow(dead_code)]
 #[path = "../../../gate/compare/src/whether.rs"]
 mod whether;
 #[allow(dead_code)]
@@ -77,6 +83,7 @@ pub fn agreed(bytes: &[u8]) -> Result<[u64; 4], String> {
         Given::Walk(call) => calls::agreed(&mut rng, &call).map(|left| left.answer).map_err(|why| format!("{why}; {call}")),
         Given::Guarded(call) => guarded::agreed(&mut rng, &call).map(|left| left.answer).map_err(|why| format!("{why}; {call}")),
         Given::ByCases(call) => by_cases::agreed(&mut rng, &call).map(|left| left.answer).map_err(|why| format!("{why}; {call}")),
+        Given::Values(call) => values::agreed(&mut rng, &call).map(|left| left.answer).map_err(|why| format!("{why}; {call}")),
         Given::Indexed(both) => indexes::agreed(&mut rng, &both).map(|[_, left]| left.answer).map_err(|why| format!("{why}; {both}")),
         Given::Derive(call) => derives::agreed(&mut rng, &call).map(|left| left.answer).map_err(|why| format!("{why}; {call}")),
         Given::Derivation(check) => checks::agreed(&mut rng, &check).map_err(|why| format!("{why}; {check}")),

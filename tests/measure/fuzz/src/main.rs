@@ -14,7 +14,7 @@ use words::{number, obey, Failure};
 /// As for the comparison: what a walk may need, and room for this program itself.
 const STACK: usize = glintstring::STACK_NEEDED + (2 << 20);
 /// Bytes of the inputs that are kept, together.
-const KEPT: usize = 150_000;
+const KEPT: usize = 190_000;
 
 const HELP: &str = "usage: cases seeds FOLDER SEED COUNT FILE | cases keep FOLDER FILE | cases replay FILE";
 

@@ -10,9 +10,10 @@ use Rattle.checking.proofs.each_line.check_lines.Reads as reads
 use Rattle.checking.proofs.each_line.check_lines.Lts as lts
 use Rattle.checking.proofs.each_line.line_refused.Reads as line-refused-reads
 use Rattle.deriving.proofs.derived.place_of.Reads as place-of-reads
+use Rattle.meaning.specs.declared.Form.the-variants.{Flags}
 
 abbrev Inv-loop : tie.InvT-loop
-Inv-loop layout n m s t d u₀ places lines i₀ u i = Checking layout (table-in s) (lines-in layout n m d) i
+Inv-loop layout n m s t d u₀ places lines i₀ u i = Checking layout (table-in Flags s) (lines-in layout n m d) i
 
 abbrev μ-loop : tie.MeasureT-loop
 μ-loop layout n m s t d u₀ places lines i₀ u i = lines - i

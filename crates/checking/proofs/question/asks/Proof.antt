@@ -1,6 +1,5 @@
 -- After the start the conclusion is asked: as a list against the goals, or as a fluent by its byte; of another kind it is not what is asked.
-use Rattle.steps.proofs.HandLaws.{goals-here}
-use Rattle.checking.proofs.QuestionLaws.{own-list, own-byte, other-start, goals-not-fluent, goals-asked, fluent-not-list, fluent-asked}
+use Rattle.checking.proofs.QuestionLaws.{goals-there, own-list, own-byte, other-start, goals-not-fluent, goals-asked, fluent-not-list, fluent-asked}
 use borrow.Author.Needs.{needs}
 use Rattle.checking.proofs.question.asks.Statement.{statement}
 use Rattle.checking.proofs.question.asks.Tie as tie
@@ -28,7 +27,7 @@ get-requires c κs = search needs
 
 -- src/question.rt:68:17
 same-lists-requires : tie.Need-same-lists-requires
-same-lists-requires c κs = (search own-list, search goals-here)
+same-lists-requires c κs = (search own-list, search goals-there)
 
 -- src/question.rt:68:17
 returns-2 : tie.Need-returns-2

@@ -30,7 +30,7 @@ enum-known-count c = search needs
 
 -- src/derived.rt:54:34
 overlap-requires : tie.Need-overlap-requires
-overlap-requires c κs = search (needs, line-held)
+overlap-requires c κs = (search counted-flags, search (needs, line-held))
 
 -- src/derived.rt:55:21
 enum-known-k : tie.Need-enum-known-k

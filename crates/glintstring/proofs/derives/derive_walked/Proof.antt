@@ -1,5 +1,6 @@
 -- Each of the two walks answers as the definition's does, and past both the lines are written as it says.
-use Rattle.glintstring.proofs.DeriveLaws.{narrow-hand, walked-stops, walked-wide, narrow-verified, walked-written}
+use Rattle.glintstring.proofs.DeriveLaws.{narrow-hand, narrow-form, walked-stops, walked-wide, narrow-verified, walked-written}
+use Rattle.verdicts.proofs.WalkedLaws.{plain-mode}
 use borrow.Author.Needs.{needs}
 use Rattle.glintstring.proofs.derives.derive_walked.Statement.{statement}
 use Rattle.glintstring.proofs.derives.derive_walked.Tie as tie
@@ -15,7 +16,7 @@ slice-aggregate-walk-plan c = search needs
 
 -- src/derives.rt:70:9
 walk-plan-requires : tie.Need-walk-plan-requires
-walk-plan-requires c κs = search needs
+walk-plan-requires c κs = (search needs, (search plain-mode, search needs))
 
 -- src/derives.rt:72:9
 returns : tie.Need-returns
@@ -31,7 +32,7 @@ slice-aggregate-walk-plan-2 c = search needs
 
 -- src/derives.rt:75:9
 walk-plan-requires-2 : tie.Need-walk-plan-requires-2
-walk-plan-requires-2 c κs = (search narrow-hand, search needs)
+walk-plan-requires-2 c κs = (search narrow-hand, (search narrow-form, search needs))
 
 -- src/derives.rt:77:9
 returns-2 : tie.Need-returns-2

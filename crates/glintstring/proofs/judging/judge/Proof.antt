@@ -1,6 +1,6 @@
 -- The three ways out: another length than a state's, a refusal, and the walk of a settled request. Each is a case of the definition.
 use Rattle.glintstring.proofs.JudgingLaws.{judge-9, judge-walked, judge-refused}
-use Rattle.glintstring.proofs.SettledAtHand.{settled-at-hand}
+use Rattle.glintstring.proofs.SettledAtHand.{settled-at-hand, settled-form}
 use Rattle.verdicts.proofs.ReleasingLaws.{blank-is}
 use borrow.Author.Needs.{needs}
 use Rattle.glintstring.proofs.judging.judge.Statement.{statement}
@@ -31,7 +31,9 @@ enum-told c = search needs
 walk-with-line-requires : tie.Need-walk-with-line-requires
 walk-with-line-requires c κs =
     let settles = c .before .before .before .before in
-    (settled-at-hand _ _ _ _ (settles .settle .ensures) _ (c .before .before .enum-told .given .1) (settles .before .before .before .before .shared-slice-known .given) blank-is, search needs)
+    let told = c .before .before .enum-told .given .1 in
+    let bytes = settles .before .before .before .before .shared-slice-known .given in
+    (settled-at-hand _ _ _ _ (settles .settle .ensures) _ told bytes blank-is, (settled-form _ _ _ _ (settles .settle .ensures) _ told bytes blank-is, search needs))
 
 -- src/judging.rt:79:23
 enum-known-k : tie.Need-enum-known-k

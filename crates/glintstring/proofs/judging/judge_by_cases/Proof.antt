@@ -1,6 +1,6 @@
 -- The three ways out, as of the walk call; the mode is put into the notes of a settled request.
 use Rattle.glintstring.proofs.JudgingLaws.{cases-9, cases-walked, cases-refused}
-use Rattle.glintstring.proofs.SettledAtHand.{cases-hand}
+use Rattle.glintstring.proofs.SettledAtHand.{cases-hand, cases-form}
 use Rattle.verdicts.proofs.ReleasingLaws.{blank-is}
 use borrow.Author.Needs.{needs}
 use Rattle.glintstring.proofs.judging.judge_by_cases.Statement.{statement}
@@ -36,7 +36,9 @@ put-requires c κs = search needs
 walk-with-line-requires : tie.Need-walk-with-line-requires
 walk-with-line-requires c κs =
     let settles = c .before .before .before .before .before .before in
-    (cases-hand _ _ _ _ (settles .settle .ensures) _ (c .before .before .before .before .enum-told .given .1) (settles .before .before .before .before .shared-slice-known .given) blank-is _ (c .before .before .put .ensures), search needs)
+    let told = c .before .before .before .before .enum-told .given .1 in
+    let bytes = settles .before .before .before .before .shared-slice-known .given in
+    (cases-hand _ _ _ _ (settles .settle .ensures) _ told bytes blank-is _ (c .before .before .put .ensures), (cases-form _ _ _ _ (settles .settle .ensures) _ told bytes blank-is _ (c .before .before .put .ensures), search needs))
 
 -- src/judging.rt:112:23
 enum-known-k : tie.Need-enum-known-k

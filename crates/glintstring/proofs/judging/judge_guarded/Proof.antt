@@ -1,6 +1,6 @@
 -- The three ways out, as of the walk call.
 use Rattle.glintstring.proofs.JudgingLaws.{guarded-9, guarded-walked, guarded-refused}
-use Rattle.glintstring.proofs.SettledAtHand.{guarded-hand}
+use Rattle.glintstring.proofs.SettledAtHand.{guarded-hand, guarded-form}
 use Rattle.verdicts.proofs.ReleasingLaws.{blank-is}
 use borrow.Author.Needs.{needs}
 use Rattle.glintstring.proofs.judging.judge_guarded.Statement.{statement}
@@ -31,7 +31,9 @@ enum-told c = search needs
 walk-with-line-requires : tie.Need-walk-with-line-requires
 walk-with-line-requires c κs =
     let settles = c .before .before .before .before in
-    (guarded-hand _ _ _ _ (settles .settle-guarded .ensures) _ (c .before .before .enum-told .given .1) (settles .before .before .before .before .shared-slice-known .given) blank-is, search needs)
+    let told = c .before .before .enum-told .given .1 in
+    let bytes = settles .before .before .before .before .shared-slice-known .given in
+    (guarded-hand _ _ _ _ (settles .settle-guarded .ensures) _ told bytes blank-is, (guarded-form _ _ _ _ (settles .settle-guarded .ensures) _ told bytes blank-is, search needs))
 
 -- src/judging.rt:94:23
 enum-known-k : tie.Need-enum-known-k

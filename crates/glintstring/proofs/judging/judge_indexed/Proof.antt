@@ -1,6 +1,6 @@
 -- The four ways out: another length than a state's, a refusal, another index, and the walk of a settled request with its index taken into the notes.
 use Rattle.glintstring.proofs.SettledAtHand.{settled-table}
-use Rattle.glintstring.proofs.IndexedLaws.{indexed-9, indexed-refused, indexed-differs, indexed-walked, right-one, indexed-hand}
+use Rattle.glintstring.proofs.IndexedLaws.{indexed-9, indexed-refused, indexed-differs, indexed-walked, right-one, indexed-hand, indexed-form}
 use Rattle.verdicts.proofs.ReleasingLaws.{blank-is}
 use borrow.Author.Needs.{needs}
 use Rattle.glintstring.proofs.judging.judge_indexed.Statement.{statement}
@@ -50,7 +50,9 @@ walk-with-line-requires : tie.Need-walk-with-line-requires
 walk-with-line-requires c κs =
     let settles = c .before .before .before .before .before .before .before .before .before .before in
     let right = right-one _ _ _ (c .before .before .before .before .before .before .differs .ensures) (c .before .before .before .before .enum-told2 .given .1) in
-    (indexed-hand _ _ _ _ (settles .settle .ensures) _ (c .before .before .before .before .before .before .before .before .enum-told .given .1) (settles .before .before .before .before .before .shared-slice-known .given) blank-is _ right _ (c .before .before .take-index .ensures), search needs)
+    let told = c .before .before .before .before .before .before .before .before .enum-told .given .1 in
+    let bytes = settles .before .before .before .before .before .shared-slice-known .given in
+    (indexed-hand _ _ _ _ (settles .settle .ensures) _ told bytes blank-is _ right _ (c .before .before .take-index .ensures), (indexed-form _ _ _ _ (settles .settle .ensures) _ told bytes blank-is _ right _ (c .before .before .take-index .ensures), search needs))
 
 -- src/judging.rt:135:23
 enum-known-p : tie.Need-enum-known-p

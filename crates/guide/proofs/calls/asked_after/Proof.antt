@@ -8,19 +8,19 @@ use Rattle.guide.proofs.calls.asked_after.Lts as lts
 use Rattle.guide.proofs.calls.none_asked.Reads as none-asked-reads
 use Rattle.guide.proofs.sensed.sensed_by.Reads as sensed-by-reads
 
--- src/calls.rt:133:9
+-- src/calls.rt:134:9
 sensed-by-requires : tie.Need-sensed-by-requires
 sensed-by-requires c κs = search needs
 
--- src/calls.rt:133:9
+-- src/calls.rt:134:9
 returns : tie.Need-returns
 returns c = search asked-after
 
--- src/calls.rt:135:5
+-- src/calls.rt:136:5
 none-asked-requires : tie.Need-none-asked-requires
 none-asked-requires c κs = search needs
 
--- src/calls.rt:128:1
+-- src/calls.rt:129:1
 returns-2 : tie.Need-returns-2
 returns-2 c = search none-after
 

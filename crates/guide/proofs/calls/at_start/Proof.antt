@@ -11,35 +11,35 @@ use Rattle.reading.proofs.notes.get.Reads as get-reads
 use Rattle.refusing.proofs.settled.settle.Reads as settle-reads
 use Rattle.steps.proofs.onward.start_of.Reads as start-of-reads
 
--- src/calls.rt:101:11
+-- src/calls.rt:102:11
 settle-requires : tie.Need-settle-requires
 settle-requires c κs = search blank-is
 
--- src/calls.rt:103:29
+-- src/calls.rt:104:29
 enum-told : tie.Need-enum-told
 enum-told c = search needs
 
--- src/calls.rt:103:17
+-- src/calls.rt:104:17
 get-requires : tie.Need-get-requires
 get-requires c κs = search needs
 
--- src/calls.rt:104:17
+-- src/calls.rt:105:17
 start-of-requires : tie.Need-start-of-requires
 start-of-requires c κs = search needs
 
--- src/calls.rt:107:24
+-- src/calls.rt:108:24
 state-of-requires : tie.Need-state-of-requires
 state-of-requires c κs = search (settled-facts, blank-is)
 
--- src/calls.rt:112:20
+-- src/calls.rt:113:20
 enum-told-2 : tie.Need-enum-told-2
 enum-told-2 c = search needs
 
--- src/calls.rt:97:1
+-- src/calls.rt:98:1
 returns : tie.Need-returns
 returns c = search (begins, blank-is)
 
--- src/calls.rt:97:1
+-- src/calls.rt:98:1
 returns-2 : tie.Need-returns-2
 returns-2 c = search begins-not
 

@@ -14,52 +14,52 @@ use Rattle.guide.proofs.going.refused_step.Reads as refused-step-reads
 use Rattle.refusing.proofs.settled.settle.Reads as settle-reads
 use Rattle.verdicts.proofs.answers.uncounted.Reads as uncounted-reads
 
--- src/calls.rt:78:11
+-- src/calls.rt:79:11
 settle-requires : tie.Need-settle-requires
 settle-requires c κs = search blank-is
 
--- src/calls.rt:80:43
+-- src/calls.rt:81:43
 enum-told : tie.Need-enum-told
 enum-told c = search needs
 
--- src/calls.rt:80:17
+-- src/calls.rt:81:17
 is-going-requires : tie.Need-is-going-requires
 is-going-requires c κs =
     let settles = c .before .before .before in
     settled-at-hand _ _ _ _ (settles .settle .ensures) _ (c .before .enum-told .given .1) (settles .before .before .before .shared-slice-known .given) blank-is
 
--- src/calls.rt:82:17
+-- src/calls.rt:83:17
 answer-call-requires : tie.Need-answer-call-requires
 answer-call-requires c κs =
     let settles = c .before .before .before .before .before .before in
     let here = settled-at-hand _ _ _ _ (settles .settle .ensures) _ (c .before .before .before .before .enum-told .given .1) (settles .before .before .before .shared-slice-known .given) blank-is in
     (here, (going-position _ _ _ _ _ (c .before .before .is-going .ensures .0) (c .before .if1 .taken) here, search going-marked))
 
--- src/calls.rt:82:17
+-- src/calls.rt:83:17
 returns : tie.Need-returns
 returns c = search (called-going, blank-is)
 
--- src/calls.rt:84:13
+-- src/calls.rt:85:13
 refused-step-requires : tie.Need-refused-step-requires
 refused-step-requires c κs = search needs
 
--- src/calls.rt:86:23
+-- src/calls.rt:87:23
 enum-known-k : tie.Need-enum-known-k
 enum-known-k c = search needs
 
--- src/calls.rt:86:40
+-- src/calls.rt:87:40
 uncounted-requires : tie.Need-uncounted-requires
 uncounted-requires c κs = search needs
 
--- src/calls.rt:86:32
+-- src/calls.rt:87:32
 refused-requires : tie.Need-refused-requires
 refused-requires c κs = search needs
 
--- src/calls.rt:74:1
+-- src/calls.rt:75:1
 returns-2 : tie.Need-returns-2
 returns-2 c = search (called-refused, blank-is)
 
--- src/calls.rt:74:1
+-- src/calls.rt:75:1
 returns-3 : tie.Need-returns-3
 returns-3 c = search called-fault
 

@@ -8,19 +8,19 @@ use Rattle.guide.proofs.calls.is_going.Lts as lts
 use Rattle.guide.proofs.calls.is_marked.Reads as is-marked-reads
 use Rattle.guide.proofs.calls.is_position.Reads as is-position-reads
 
--- src/calls.rt:66:9
+-- src/calls.rt:67:9
 is-position-requires : tie.Need-is-position-requires
 is-position-requires c κs = search needs
 
--- src/calls.rt:68:9
+-- src/calls.rt:69:9
 is-marked-requires : tie.Need-is-marked-requires
 is-marked-requires c κs = search needs
 
--- src/calls.rt:68:9
+-- src/calls.rt:69:9
 returns : tie.Need-returns
 returns c = (search both-there, search needs)
 
--- src/calls.rt:60:1
+-- src/calls.rt:61:1
 returns-2 : tie.Need-returns-2
 returns-2 c = (search not-there, search needs)
 

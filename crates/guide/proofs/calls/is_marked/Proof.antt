@@ -14,31 +14,31 @@ Inv-loop marks row f₀ f = Marks-left marks f
 abbrev μ-loop : tie.MeasureT-loop
 μ-loop marks row f₀ f = format .fluents - f
 
--- src/calls.rt:37:5
+-- src/calls.rt:38:5
 loop-holds : tie.Need-loop-holds Inv-loop μ-loop
 loop-holds c = search marks-start
 
--- src/calls.rt:39:9
+-- src/calls.rt:40:9
 add-f : tie.Need-add-f Inv-loop μ-loop
 add-f c = search needs
 
--- src/calls.rt:40:16
+-- src/calls.rt:41:16
 shared-slice-read-if1 : tie.Need-shared-slice-read-if1 Inv-loop μ-loop
 shared-slice-read-if1 c = search needs
 
--- src/calls.rt:41:13
+-- src/calls.rt:42:13
 returns : tie.Need-returns Inv-loop μ-loop
 returns c = search mark-large
 
--- src/calls.rt:37:5
+-- src/calls.rt:38:5
 loop-less : tie.Need-loop-less Inv-loop μ-loop
 loop-less c = search needs
 
--- src/calls.rt:37:5
+-- src/calls.rt:38:5
 loop-again : tie.Need-loop-again Inv-loop μ-loop
 loop-again c = search mark-small
 
--- src/calls.rt:32:1
+-- src/calls.rt:33:1
 returns-2 : tie.Need-returns-2 Inv-loop μ-loop
 returns-2 c = search marks-done
 

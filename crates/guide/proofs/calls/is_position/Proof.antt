@@ -7,15 +7,15 @@ use Rattle.guide.proofs.calls.is_position.Reads as reads
 use Rattle.guide.proofs.calls.is_position.Lts as lts
 use Rattle.reading.proofs.notes.get.Reads as get-reads
 
--- src/calls.rt:53:9
+-- src/calls.rt:54:9
 returns : tie.Need-returns
 returns c = search end-tested
 
--- src/calls.rt:55:9
+-- src/calls.rt:56:9
 get-requires : tie.Need-get-requires
 get-requires c κs = search needs
 
--- src/calls.rt:48:1
+-- src/calls.rt:49:1
 returns-2 : tie.Need-returns-2
 returns-2 c = search item-tested
 

@@ -5,7 +5,7 @@ use Rattle.guide.proofs.calls.none_asked.Tie as tie
 use Rattle.guide.proofs.calls.none_asked.Reads as reads
 use Rattle.guide.proofs.calls.none_asked.Lts as lts
 
--- src/calls.rt:118:1
+-- src/calls.rt:119:1
 returns : tie.Need-returns
 returns c = search none-told
 

@@ -9,27 +9,27 @@ use Rattle.guide.proofs.going.go_on.Reads as go-on-reads
 use Rattle.guide.proofs.going.refused_step.Reads as refused-step-reads
 use Rattle.guide.proofs.going.step_after.Reads as step-after-reads
 
--- src/going.rt:190:9
+-- src/going.rt:193:9
 step-after-requires : tie.Need-step-after-requires
 step-after-requires c κs = search needs
 
--- src/going.rt:190:9
+-- src/going.rt:193:9
 returns : tie.Need-returns
 returns c = search needs
 
--- src/going.rt:193:9
+-- src/going.rt:196:9
 refused-step-requires : tie.Need-refused-step-requires
 refused-step-requires c κs = search needs
 
--- src/going.rt:193:9
+-- src/going.rt:196:9
 returns-2 : tie.Need-returns-2
 returns-2 c = search number-some
 
--- src/going.rt:195:5
+-- src/going.rt:198:5
 go-on-requires : tie.Need-go-on-requires
 go-on-requires c κs = search needs
 
--- src/going.rt:176:1
+-- src/going.rt:179:1
 returns-3 : tie.Need-returns-3
 returns-3 c = search reads-none
 

@@ -14,51 +14,51 @@ use Rattle.steps.proofs.actions.state_after.Reads as state-after-reads
 use Rattle.steps.proofs.onward.follow.Reads as follow-reads
 use Rattle.steps.proofs.sensing.is_sensing.Reads as is-sensing-reads
 
--- src/going.rt:109:16
+-- src/going.rt:112:16
 add-slot : tie.Need-add-slot
 add-slot c = search place-fits
 
--- src/going.rt:110:9
+-- src/going.rt:113:9
 get-requires : tie.Need-get-requires
 get-requires c κs = search place-there
 
--- src/going.rt:111:18
+-- src/going.rt:114:18
 shared-slice-read-wide : tie.Need-shared-slice-read-wide
 shared-slice-read-wide c = search item-inside
 
--- src/going.rt:111:9
+-- src/going.rt:114:9
 wide-requires : tie.Need-wide-requires
 wide-requires c κs = search needs
 
--- src/going.rt:112:9
+-- src/going.rt:115:9
 can-be-run-requires : tie.Need-can-be-run-requires
 can-be-run-requires c κs = (search needs, search action-low)
 
--- src/going.rt:114:13
+-- src/going.rt:117:13
 follow-requires : tie.Need-follow-requires
 follow-requires c κs = search needs
 
--- src/going.rt:115:13
+-- src/going.rt:118:13
 is-sensing-requires : tie.Need-is-sensing-requires
 is-sensing-requires c κs = (search needs, search action-low)
 
--- src/going.rt:117:13
+-- src/going.rt:120:13
 returns : tie.Need-returns
 returns c = search item-sensing
 
--- src/going.rt:124:13
+-- src/going.rt:127:13
 state-after-requires : tie.Need-state-after-requires
 state-after-requires c κs = (search needs, (search action-low, (search needs, search can-run)))
 
--- src/going.rt:125:9
+-- src/going.rt:128:9
 returns-2 : tie.Need-returns-2
 returns-2 c = search item-acting
 
--- src/going.rt:132:5
+-- src/going.rt:135:5
 refused-step-requires : tie.Need-refused-step-requires
 refused-step-requires c κs = search needs
 
--- src/going.rt:103:1
+-- src/going.rt:106:1
 returns-3 : tie.Need-returns-3
 returns-3 c = search item-refused
 

@@ -17,51 +17,51 @@ Inv-loop s t at marks i₀ i = Looking s t at marks i
 abbrev μ-loop : tie.MeasureT-loop
 μ-loop s t at marks i₀ i = format .items - i
 
--- src/going.rt:56:5
+-- src/going.rt:59:5
 loop-holds : tie.Need-loop-holds Inv-loop μ-loop
 loop-holds c = search looking-starts
 
--- src/going.rt:57:20
+-- src/going.rt:60:20
 add-slot : tie.Need-add-slot Inv-loop μ-loop
 add-slot c = search (place-fits, looking-there)
 
--- src/going.rt:58:13
+-- src/going.rt:61:13
 get-requires : tie.Need-get-requires Inv-loop μ-loop
 get-requires c κs = search (place-there, looking-there)
 
--- src/going.rt:59:12
+-- src/going.rt:62:12
 shared-slice-read-if1 : tie.Need-shared-slice-read-if1 Inv-loop μ-loop
 shared-slice-read-if1 c = search (item-inside, looking-there)
 
--- src/going.rt:60:19
+-- src/going.rt:63:19
 chosen-requires : tie.Need-chosen-requires Inv-loop μ-loop
-chosen-requires c κs = (search needs, (search looking-there, search place-branching))
+chosen-requires c κs = (search needs, (search looking-there, (search place-branching, search needs)))
 
--- src/going.rt:61:27
+-- src/going.rt:64:27
 enum-known-j : tie.Need-enum-known-j Inv-loop μ-loop
 enum-known-j c = search needs
 
--- src/going.rt:56:5
+-- src/going.rt:59:5
 loop-less : tie.Need-loop-less Inv-loop μ-loop
 loop-less c = search chosen-falls
 
--- src/going.rt:56:5
+-- src/going.rt:59:5
 loop-again : tie.Need-loop-again Inv-loop μ-loop
 loop-again c = search looking-on
 
--- src/going.rt:66:21
+-- src/going.rt:69:21
 enum-told : tie.Need-enum-told Inv-loop μ-loop
 enum-told c = search needs
 
--- src/going.rt:66:21
+-- src/going.rt:69:21
 returns : tie.Need-returns Inv-loop μ-loop
 returns c = (search looking-none, search no-action-none)
 
--- src/going.rt:70:9
+-- src/going.rt:73:9
 returns-2 : tie.Need-returns-2 Inv-loop μ-loop
 returns-2 c = (search looking-action, search looking-item)
 
--- src/going.rt:49:1
+-- src/going.rt:51:1
 returns-3 : tie.Need-returns-3 Inv-loop μ-loop
 returns-3 c = (search looking-end, search no-action-end)
 

@@ -8,15 +8,15 @@ use Rattle.guide.proofs.going.refused_step.Lts as lts
 use Rattle.guide.proofs.going.refused.Reads as refused-reads
 use Rattle.verdicts.proofs.answers.uncounted.Reads as uncounted-reads
 
--- src/going.rt:99:13
+-- src/going.rt:102:13
 uncounted-requires : tie.Need-uncounted-requires
 uncounted-requires c κs = search needs
 
--- src/going.rt:99:5
+-- src/going.rt:102:5
 refused-requires : tie.Need-refused-requires
 refused-requires c κs = search needs
 
--- src/going.rt:96:1
+-- src/going.rt:99:1
 returns : tie.Need-returns
 returns c = search refused-own
 

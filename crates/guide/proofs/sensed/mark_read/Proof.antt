@@ -5,11 +5,11 @@ use Rattle.guide.proofs.sensed.mark_read.Tie as tie
 use Rattle.guide.proofs.sensed.mark_read.Reads as reads
 use Rattle.guide.proofs.sensed.mark_read.Lts as lts
 
--- src/sensed.rt:46:1
+-- src/sensed.rt:47:1
 returns : tie.Need-returns
 returns c = search read-no
 
--- src/sensed.rt:46:1
+-- src/sensed.rt:47:1
 returns-2 : tie.Need-returns-2
 returns-2 c = search read-yes
 

@@ -11,9 +11,10 @@ use Rattle.indexing.proofs.taking.take_index.Reads as reads
 use Rattle.indexing.proofs.taking.take_index.Lts as lts
 use Rattle.bytes.proofs.bytes.wide.Reads as wide-reads
 use Rattle.indexing.proofs.taking.take_lines.Reads as take-lines-reads
+use Rattle.meaning.specs.declared.Form.the-variants.{Flags}
 
 abbrev Inv-loop : tie.InvT-loop
-Inv-loop s index t₀ actions q₀ effects₀ runs₀ a₀ t q effects runs a = Indexing index (table-in s) (index-taken index 0 (table-in s .actions) 0 0 0 t₀) t actions q effects runs a
+Inv-loop s index t₀ actions q₀ effects₀ runs₀ a₀ t q effects runs a = Indexing index (table-in Flags s) (index-taken index 0 (table-in Flags s .actions) 0 0 0 t₀) t actions q effects runs a
 
 abbrev μ-loop : tie.MeasureT-loop
 μ-loop s index t₀ actions q₀ effects₀ runs₀ a₀ t q effects runs a = actions - a

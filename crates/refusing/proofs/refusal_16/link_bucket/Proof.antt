@@ -7,27 +7,27 @@ use Rattle.refusing.proofs.refusal_16.link_bucket.Tie as tie
 use Rattle.refusing.proofs.refusal_16.link_bucket.Reads as reads
 use Rattle.refusing.proofs.refusal_16.link_bucket.Lts as lts
 
--- src/refusal_16.rt:51:16
+-- src/refusal_16.rt:67:16
 add-last : tie.Need-add-last
 add-last c = search needs
 
--- src/refusal_16.rt:52:15
+-- src/refusal_16.rt:68:15
 element-copy-out-same : tie.Need-element-copy-out-same
 element-copy-out-same c = search needs
 
--- src/refusal_16.rt:52:5
+-- src/refusal_16.rt:68:5
 element-write-same : tie.Need-element-write-same
 element-write-same c = search needs
 
--- src/refusal_16.rt:53:18
+-- src/refusal_16.rt:69:18
 cast-same : tie.Need-cast-same
 cast-same c = search needs
 
--- src/refusal_16.rt:53:5
+-- src/refusal_16.rt:69:5
 element-write-same-2 : tie.Need-element-write-same-2
 element-write-same-2 c = search needs
 
--- src/refusal_16.rt:46:1
+-- src/refusal_16.rt:62:1
 returns : tie.Need-returns
 unfolding bucket-linked
 returns c = refl

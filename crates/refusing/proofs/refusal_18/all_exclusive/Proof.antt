@@ -1,78 +1,45 @@
--- At each turn every two conditions are exclusive exactly where every two of those left are.
-use mathlib.Core.Path.{_≡_}
-use Rattle.finding.specs.Branches.{conditions-from, Branches-here}
-use Rattle.refusing.specs.Refusal18.{all-apart}
-use Rattle.finding.proofs.ByBranch.{branch-first, condition-first, branches-next}
-use Rattle.refusing.proofs.Laws18.{apart-not, apart-next, apart-done}
+-- Each form has its own test of a condition.
+use Rattle.refusing.proofs.Laws18.{branches-as, apart-as}
+use Rattle.bytes.proofs.LineReaderLaws.{counted-values}
 use borrow.Author.Needs.{needs}
 use Rattle.refusing.proofs.refusal_18.all_exclusive.Statement.{statement}
 use Rattle.refusing.proofs.refusal_18.all_exclusive.Tie as tie
 use Rattle.refusing.proofs.refusal_18.all_exclusive.Reads as reads
 use Rattle.refusing.proofs.refusal_18.all_exclusive.Lts as lts
-use Rattle.reading.proofs.marks.state_of.Reads as state-of-reads
-use Rattle.refusing.proofs.refusal_18.excludes.Reads as excludes-reads
-use Rattle.finding.proofs.branches.next_item.Reads as next-item-reads
-use Rattle.finding.proofs.branches.next_place.Reads as next-place-reads
+use Rattle.refusing.proofs.refusal_18.flags_exclusive.Reads as flags-exclusive-reads
+use Rattle.refusing.proofs.refusal_18.values_exclusive.Reads as values-exclusive-reads
 
-abbrev Inv-loop : tie.InvT-loop
-Inv-loop s t count place item left₀ p₀ i₀ left p i = (Branches-here s t left p i) × (all-apart (conditions-from s t count place item) ≡ all-apart (conditions-from s t left p i))
+-- src/refusal_18.rt:137:24
+enum-told : tie.Need-enum-told
+enum-told c = search needs
 
-abbrev μ-loop : tie.MeasureT-loop
-μ-loop s t count place item left₀ p₀ i₀ left p i = left
+-- src/refusal_18.rt:137:24
+flags-exclusive-requires : tie.Need-flags-exclusive-requires
+flags-exclusive-requires c κs = search branches-as
 
--- src/refusal_18.rt:51:5
-loop-holds : tie.Need-loop-holds Inv-loop μ-loop
-loop-holds c = search needs
+-- src/refusal_18.rt:138:25
+enum-told-2 : tie.Need-enum-told-2
+enum-told-2 c = search needs
 
--- src/refusal_18.rt:52:20
-state-of-requires : tie.Need-state-of-requires Inv-loop μ-loop
-state-of-requires c κs = search (needs, condition-first)
+-- src/refusal_18.rt:138:25
+values-exclusive-requires : tie.Need-values-exclusive-requires
+values-exclusive-requires c κs = (search counted-values, search branches-as)
 
--- src/refusal_18.rt:53:13
-next-place-requires : tie.Need-next-place-requires Inv-loop μ-loop
-next-place-requires c κs = search (needs, branch-first)
+-- src/refusal_18.rt:131:1
+returns : tie.Need-returns
+returns c = search apart-as
 
--- src/refusal_18.rt:54:13
-next-item-requires : tie.Need-next-item-requires Inv-loop μ-loop
-next-item-requires c κs = search (needs, branch-first)
-
--- src/refusal_18.rt:55:22
-sub-others : tie.Need-sub-others Inv-loop μ-loop
-sub-others c = search needs
-
--- src/refusal_18.rt:56:13
-excludes-requires : tie.Need-excludes-requires Inv-loop μ-loop
-excludes-requires c κs = search (needs, branches-next)
-
--- src/refusal_18.rt:51:5
-loop-less : tie.Need-loop-less Inv-loop μ-loop
-loop-less c = search needs
-
--- src/refusal_18.rt:51:5
-loop-again : tie.Need-loop-again Inv-loop μ-loop
-loop-again c = search (needs, branches-next, apart-next)
-
--- src/refusal_18.rt:63:9
-returns : tie.Need-returns Inv-loop μ-loop
-returns c = search apart-not
-
--- src/refusal_18.rt:44:1
-returns-2 : tie.Need-returns-2 Inv-loop μ-loop
-returns-2 c = search apart-done
+-- src/refusal_18.rt:131:1
+returns-2 : tie.Need-returns-2
+returns-2 c = search apart-as
 
 pub all-exclusive-spec : {M : Type 1} → statement M
 all-exclusive-spec =
     tie.close
     (tie.spec
-    Inv-loop
-    μ-loop
-    loop-holds
-    state-of-requires
-    next-place-requires
-    next-item-requires
-    sub-others
-    excludes-requires
-    loop-less
-    loop-again
+    enum-told
+    flags-exclusive-requires
+    enum-told-2
+    values-exclusive-requires
     returns
     returns-2)

@@ -14,44 +14,44 @@ use Rattle.refusing.proofs.refusal_18.apart.Reads as apart-reads
 use Rattle.reading.proofs.notes.get.Reads as get-reads
 
 abbrev Inv-loop : tie.InvT-loop
-Inv-loop s t count i₀ i = found (first-overlap s t count 0) ≡ found (first-overlap s t (count - i) i)
+Inv-loop form s t count i₀ i = found (first-overlap form s t count 0) ≡ found (first-overlap form s t (count - i) i)
 
 abbrev μ-loop : tie.MeasureT-loop
-μ-loop s t count i₀ i = count - i
+μ-loop form s t count i₀ i = count - i
 
--- src/refusal_18.rt:89:5
+-- src/refusal_18.rt:165:5
 loop-holds : tie.Need-loop-holds Inv-loop μ-loop
 loop-holds c = search (needs, overlap-starts)
 
--- src/refusal_18.rt:90:24
+-- src/refusal_18.rt:166:24
 add-get : tie.Need-add-get Inv-loop μ-loop
 add-get c = search needs
 
--- src/refusal_18.rt:90:13
+-- src/refusal_18.rt:166:13
 get-requires : tie.Need-get-requires Inv-loop μ-loop
 get-requires c κs = search needs
 
--- src/refusal_18.rt:91:13
+-- src/refusal_18.rt:167:13
 apart-requires : tie.Need-apart-requires Inv-loop μ-loop
-apart-requires c κs = search (needs, item-there)
+apart-requires c κs = (search needs, search item-there)
 
--- src/refusal_18.rt:92:9
+-- src/refusal_18.rt:168:9
 add-i : tie.Need-add-i Inv-loop μ-loop
 add-i c = search needs
 
--- src/refusal_18.rt:89:5
+-- src/refusal_18.rt:165:5
 loop-less : tie.Need-loop-less Inv-loop μ-loop
 loop-less c = search needs
 
--- src/refusal_18.rt:89:5
+-- src/refusal_18.rt:165:5
 loop-again : tie.Need-loop-again Inv-loop μ-loop
 loop-again c = search (needs, overlap-next)
 
--- src/refusal_18.rt:96:9
+-- src/refusal_18.rt:172:9
 returns : tie.Need-returns Inv-loop μ-loop
 returns c = search overlap-here
 
--- src/refusal_18.rt:84:1
+-- src/refusal_18.rt:159:1
 returns-2 : tie.Need-returns-2 Inv-loop μ-loop
 returns-2 c = search overlap-done
 

@@ -8,11 +8,11 @@ use Rattle.refusing.proofs.refusal_18.overlap.Reads as reads
 use Rattle.refusing.proofs.refusal_18.overlap.Lts as lts
 use Rattle.refusing.proofs.refusal_18.first_overlap.Reads as first-overlap-reads
 
--- src/refusal_18.rt:151:5
+-- src/refusal_18.rt:183:5
 first-overlap-requires : tie.Need-first-overlap-requires
 first-overlap-requires c κs = search (needs, some-here)
 
--- src/refusal_18.rt:102:1
+-- src/refusal_18.rt:178:1
 returns : tie.Need-returns
 returns c = search overlap-found
 

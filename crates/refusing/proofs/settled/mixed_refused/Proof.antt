@@ -8,35 +8,35 @@ use Rattle.refusing.proofs.settled.mixed_refused.Lts as lts
 use Rattle.refusing.proofs.refusal_17.mixed.Reads as mixed-reads
 use Rattle.reading.proofs.notes.get.Reads as get-reads
 
--- src/settled.rt:30:9
+-- src/settled.rt:34:9
 get-requires : tie.Need-get-requires
 get-requires c κs = search needs
 
--- src/settled.rt:31:17
+-- src/settled.rt:35:17
 mul-bytes : tie.Need-mul-bytes
 mul-bytes c = search fits-17
 
--- src/settled.rt:32:17
+-- src/settled.rt:36:17
 sub-start : tie.Need-sub-start
 sub-start c = search bytes-17
 
--- src/settled.rt:33:11
+-- src/settled.rt:37:11
 mixed-requires : tie.Need-mixed-requires
 mixed-requires c κs = search stand-17
 
--- src/settled.rt:34:27
+-- src/settled.rt:38:27
 enum-told : tie.Need-enum-told
 enum-told c = search needs
 
--- src/settled.rt:35:19
+-- src/settled.rt:39:19
 enum-known-p : tie.Need-enum-known-p
 enum-known-p c = search needs
 
--- src/settled.rt:25:1
+-- src/settled.rt:29:1
 returns : tie.Need-returns
 returns c = search none-17
 
--- src/settled.rt:25:1
+-- src/settled.rt:29:1
 returns-2 : tie.Need-returns-2
 returns-2 c = search at-17
 

@@ -9,31 +9,31 @@ use Rattle.refusing.proofs.settled.table_refused.Reads as table-refused
 use Rattle.refusing.proofs.settled.plan_refused.Reads as plan-refused-reads
 use Rattle.reading.proofs.notes.get.Reads as get-reads
 
--- src/settled.rt:69:9
+-- src/settled.rt:73:9
 get-requires : tie.Need-get-requires
 get-requires c κs = search needs
 
--- src/settled.rt:70:11
+-- src/settled.rt:74:11
 table-refused-requires : tie.Need-table-refused-requires
 table-refused-requires c κs = search (table-read-here, table-ends, c .before .shared-slice-known .given)
 
--- src/settled.rt:71:26
+-- src/settled.rt:75:26
 enum-told : tie.Need-enum-told
 enum-told c = search needs
 
--- src/settled.rt:71:26
+-- src/settled.rt:75:26
 plan-refused-requires : tie.Need-plan-refused-requires
 plan-refused-requires c κs = search needs
 
--- src/settled.rt:72:23
+-- src/settled.rt:76:23
 enum-known-k : tie.Need-enum-known-k
 enum-known-k c = search needs
 
--- src/settled.rt:65:1
+-- src/settled.rt:69:1
 returns : tie.Need-returns
 returns c = search (refused-then, c .before .before .before .before .before .shared-slice-known .given)
 
--- src/settled.rt:65:1
+-- src/settled.rt:69:1
 returns-2 : tie.Need-returns-2
 returns-2 c = search (refused-first, c .before .before .before .before .before .shared-slice-known .given)
 

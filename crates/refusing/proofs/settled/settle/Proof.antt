@@ -8,27 +8,27 @@ use Rattle.refusing.proofs.settled.settle.Lts as lts
 use Rattle.reader.proofs.whole.read_request.Reads as read-request-reads
 use Rattle.refusing.proofs.settled.refused.Reads as refused-reads
 
--- src/settled.rt:92:11
+-- src/settled.rt:96:11
 read-request-requires : tie.Need-read-request-requires
 read-request-requires c κs = search needs
 
--- src/settled.rt:93:20
+-- src/settled.rt:97:20
 enum-known-e : tie.Need-enum-known-e
 enum-known-e c = search needs
 
--- src/settled.rt:93:26
+-- src/settled.rt:97:26
 refused-requires : tie.Need-refused-requires
 refused-requires c κs = search settle-here
 
--- src/settled.rt:94:23
+-- src/settled.rt:98:23
 enum-known-k : tie.Need-enum-known-k
 enum-known-k c = search needs
 
--- src/settled.rt:88:1
+-- src/settled.rt:92:1
 returns : tie.Need-returns
 returns c = search settle-there
 
--- src/settled.rt:88:1
+-- src/settled.rt:92:1
 returns-2 : tie.Need-returns-2
 returns-2 c = search settle-fault
 

@@ -1,5 +1,5 @@
 -- A contradiction is refused at its place; else the answer is that of 17.
-use Rattle.refusing.proofs.SettleLaws.{few-16, runs-16, stand-16, past-16, at-16}
+use Rattle.refusing.proofs.SettleLaws.{few-16, runs-16, values-16, stand-16, past-16, at-16}
 use borrow.Author.Needs.{needs}
 use Rattle.refusing.proofs.settled.table_refused.Statement.{statement}
 use Rattle.refusing.proofs.settled.table_refused.Tie as tie
@@ -9,31 +9,31 @@ use Rattle.refusing.proofs.refusal_16.contradiction.Reads as contradict
 use Rattle.refusing.proofs.settled.mixed_refused.Reads as mixed-refused-reads
 use Rattle.reading.proofs.notes.get.Reads as get-reads
 
--- src/settled.rt:45:9
+-- src/settled.rt:49:9
 get-requires : tie.Need-get-requires
 get-requires c κs = search needs
 
--- src/settled.rt:46:11
+-- src/settled.rt:50:11
 contradiction-requires : tie.Need-contradiction-requires
-contradiction-requires c κs = search (needs, few-16, runs-16, stand-16)
+contradiction-requires c κs = search (needs, few-16, runs-16, values-16, stand-16)
 
--- src/settled.rt:47:27
+-- src/settled.rt:51:27
 enum-told : tie.Need-enum-told
 enum-told c = search needs
 
--- src/settled.rt:47:27
+-- src/settled.rt:51:27
 mixed-refused-requires : tie.Need-mixed-refused-requires
 mixed-refused-requires c κs = search needs
 
--- src/settled.rt:48:19
+-- src/settled.rt:52:19
 enum-known-p : tie.Need-enum-known-p
 enum-known-p c = search needs
 
--- src/settled.rt:40:1
+-- src/settled.rt:44:1
 returns : tie.Need-returns
 returns c = search past-16
 
--- src/settled.rt:40:1
+-- src/settled.rt:44:1
 returns-2 : tie.Need-returns-2
 returns-2 c = search at-16
 

@@ -11,9 +11,10 @@ use Rattle.ruling.proofs.branchings.after_branches.Reads as reads
 use Rattle.ruling.proofs.branchings.after_branches.Lts as lts
 use Rattle.finding.proofs.branches.next_item.Reads as next-item-reads
 use Rattle.finding.proofs.branches.next_place.Reads as next-place-reads
+use Rattle.meaning.specs.declared.Form.the-variants.{Flags}
 
 abbrev Inv-loop : tie.InvT-loop
-Inv-loop d t count place item left₀ p₀ i₀ left p i = Branches-here d t left p i × (branches-end d t count place item ≡ branches-end d t left p i)
+Inv-loop d t count place item left₀ p₀ i₀ left p i = Branches-here Flags d t left p i × (branches-end d t count place item ≡ branches-end d t left p i)
 
 abbrev μ-loop : tie.MeasureT-loop
 μ-loop d t count place item left₀ p₀ i₀ left p i = left

@@ -63,7 +63,7 @@ state-of-requires c κs = search needs
 
 -- src/branchings.rt:114:29
 sequence-of-requires-2 : tie.Need-sequence-of-requires-2
-sequence-of-requires-2 c κs = search needs
+sequence-of-requires-2 c κs = c .before .before .before .before .before .before .before .before .before .before .before .before .before .before .before .before .before .pre .1 .1 .0 .stands .X .here
 
 -- src/branchings.rt:115:36
 sub-more : tie.Need-sub-more

@@ -2,6 +2,7 @@
 -- where the next branch begins, and the rest begins after the last branch.
 use Rattle.finding.specs.Branches.{Branches-here}
 use Rattle.finding.proofs.ByBranch.{branch-first, condition-first, branches-next}
+use Rattle.refusing.proofs.Laws18.{flags-condition}
 use Rattle.ruling.proofs.BranchRuleLaws.{Trying, second-there, second-fits, start-fits, branches-start, rest-there, trying-starts, trying-unknown, trying-other, branch-there, count-there, items-fit, taken-here, taken-none}
 use borrow.Author.Needs.{needs}
 use Rattle.ruling.proofs.branchings.some_branch.Statement.{statement}
@@ -16,9 +17,10 @@ use Rattle.reading.proofs.marks.each_holds.Reads as each-holds-reads
 use Rattle.finding.proofs.branches.next_item.Reads as next-item-reads
 use Rattle.finding.proofs.branches.next_place.Reads as next-place-reads
 use Rattle.finding.proofs.branches.sequence_of.Reads as sequence-of-reads
+use Rattle.meaning.specs.declared.Form.the-variants.{Flags}
 
 abbrev Inv-loop : tie.InvT-loop
-Inv-loop d t held first cited yc y more second count start rest left₀ p₀ i₀ left p i = Branches-here d t left p i × Trying d t held first cited yc y more left p i
+Inv-loop d t held first cited yc y more second count start rest left₀ p₀ i₀ left p i = Branches-here Flags d t left p i × Trying d t held first cited yc y more left p i
 
 abbrev μ-loop : tie.MeasureT-loop
 μ-loop d t held first cited yc y more second count start rest left₀ p₀ i₀ left p i = left
@@ -57,7 +59,7 @@ next-item-requires c κs = search (needs, branch-first)
 
 -- src/branchings.rt:70:13
 each-holds-requires : tie.Need-each-holds-requires Inv-loop μ-loop
-each-holds-requires c κs = search (needs, condition-first)
+each-holds-requires c κs = search (needs, flags-condition)
 
 -- src/branchings.rt:71:13
 sequence-of-requires : tie.Need-sequence-of-requires Inv-loop μ-loop

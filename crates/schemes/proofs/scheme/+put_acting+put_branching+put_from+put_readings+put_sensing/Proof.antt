@@ -226,7 +226,7 @@ pub +put-acting+put-branching+put-from+put-readings+put-sensing-spec : {M : Type
     (λ c κs. (search needs, (search needs, search first-marked)))
     (λ c κs. (search readings-fall, (search needs, (search needs, (search needs, (search first-marked, (search readings-first, (search needs, (search first-few, search needs)))))))))
     (λ c. search needs)
-    (λ c κs. (search readings-fall, (search needs, (search needs, (search needs, (search second-marked, (search readings-second, (search needs, (second-few _ _ _ _ _ _ (c .before .before .before .before .before .before .before .before .before .before .before .before .before .before .if1 .taken) (c .before .before .before .before .before .before .before .before .before .before .before .before .before .before .before .before .before .pre .1 .1 .1 .1 .0) _ (c .before .before .before .before .before .before .before .before .before .before .before .next-unknown .ensures) _ (c .before .before .before .before .before .before .before .before .before .before .before .before .before .before .before .before .before .pre .1 .1 .1 .1 .1 .1 .1 .0) _ _ _ _ _ (c .before .before .before .before .before .before .put-readings .ensures), search needs)))))))))
+    (λ c κs. (search readings-fall, (search needs, (search needs, (search needs, (search second-marked, (readings-second _ _ _ _ (c .before .before .before .before .before .before .before .before .before .before .before .before .before .before .if1 .taken) (c .before .before .before .before .before .before .before .before .before .before .before .before .before .before .before .before .before .pre .1 .1 .1 .1 .0) _ (c .before .before .before .before .before .before .before .before .before .before .before .next-unknown .ensures) _ _ (c .before .before .before .before .before .before .before .before .before .before .before .before .before .before .before .before .before .pre .1 .1 .1 .1 .1 .0), (search needs, (second-few _ _ _ _ _ _ (c .before .before .before .before .before .before .before .before .before .before .before .before .before .before .if1 .taken) (c .before .before .before .before .before .before .before .before .before .before .before .before .before .before .before .before .before .pre .1 .1 .1 .1 .0) _ (c .before .before .before .before .before .before .before .before .before .before .before .next-unknown .ensures) _ (c .before .before .before .before .before .before .before .before .before .before .before .before .before .before .before .before .before .pre .1 .1 .1 .1 .1 .1 .1 .0) _ _ _ _ _ (c .before .before .before .before .before .before .put-readings .ensures), search needs)))))))))
     (λ c. search needs)
     (put-readings-returns t)
     (λ c κs. (search reading-falls, (search needs, (search needs, (search needs, (search readings-none, search needs))))))

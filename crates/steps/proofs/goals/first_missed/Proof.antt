@@ -50,7 +50,7 @@ wide-requires-2 c κs = search needs
 
 -- src/goals.rt:48:13
 met-requires : tie.Need-met-requires Inv-loop μ-loop
-met-requires c κs = (search entry-below, search needs)
+met-requires c κs = search entry-below
 
 -- src/goals.rt:45:5
 loop-less : tie.Need-loop-less Inv-loop μ-loop

@@ -1,5 +1,5 @@
 -- What the notes have as the item's next, and then as the next of each branching around it, leads on to what is left after the item.
-use Rattle.steps.proofs.OnwardLaws.{Going, slot-fits, slot-there, going-starts, goes-there, around-fits, around-there, going-less, going-on-around}
+use Rattle.steps.proofs.OnwardLaws.{Goes, slot-fits, slot-there, goes-starts, goes-to, goes-fits, goes-inside, goes-less, goes-around}
 use borrow.Author.Needs.{needs}
 use Rattle.steps.proofs.onward.follow.Statement.{statement}
 use Rattle.steps.proofs.onward.follow.Tie as tie
@@ -8,7 +8,7 @@ use Rattle.steps.proofs.onward.follow.Lts as lts
 use Rattle.reading.proofs.notes.get.Reads as get-reads
 
 abbrev Inv-loop : tie.InvT-loop
-Inv-loop s t i slot at₀ at = Going s t i at
+Inv-loop s t i slot at₀ at = Goes s t i at
 
 abbrev μ-loop : tie.MeasureT-loop
 μ-loop s t i slot at₀ at = at
@@ -23,7 +23,7 @@ get-requires c κs = search slot-there
 
 -- src/onward.rt:39:5
 loop-holds : tie.Need-loop-holds Inv-loop μ-loop
-loop-holds c = search going-starts
+loop-holds c = search goes-starts
 
 -- src/onward.rt:40:22
 sub-around : tie.Need-sub-around Inv-loop μ-loop
@@ -31,23 +31,23 @@ sub-around c = search needs
 
 -- src/onward.rt:41:20
 add-next : tie.Need-add-next Inv-loop μ-loop
-add-next c = search around-fits
+add-next c = search goes-fits
 
 -- src/onward.rt:42:9
 get-requires-2 : tie.Need-get-requires-2 Inv-loop μ-loop
-get-requires-2 c κs = search around-there
+get-requires-2 c κs = search goes-inside
 
 -- src/onward.rt:39:5
 loop-less : tie.Need-loop-less Inv-loop μ-loop
-loop-less c = search going-less
+loop-less c = search goes-less
 
 -- src/onward.rt:39:5
 loop-again : tie.Need-loop-again Inv-loop μ-loop
-loop-again c = search going-on-around
+loop-again c = search goes-around
 
 -- src/onward.rt:32:1
 returns : tie.Need-returns Inv-loop μ-loop
-returns c = search goes-there
+returns c = search goes-to
 
 pub follow-spec : {M : Type 1} → statement M
 follow-spec =

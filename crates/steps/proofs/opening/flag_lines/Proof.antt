@@ -14,9 +14,10 @@ use Rattle.reading.proofs.notes.first_line.Reads as first-line-reads
 use Rattle.reading.proofs.notes.line_place.Reads as line-place-reads
 use Rattle.reading.proofs.notes.next_line.Reads as next-line-reads
 use Rattle.steps.proofs.opening.flag_body.Reads as flag-body-reads
+use Rattle.meaning.specs.declared.Form.the-variants.{Flags}
 
 abbrev Inv-loop : tie.InvT-loop
-Inv-loop s t a marks flags₀ k₀ flags k = Flagging s t run-lines 1 marks flags (flagged-at s marks 1 (run-places s a) flags₀) k
+Inv-loop s t a marks flags₀ k₀ flags k = Flagging s t run-lines 1 marks flags (flagged-at s marks 1 (run-places Flags s a) flags₀) k
 
 abbrev μ-loop : tie.MeasureT-loop
 μ-loop s t a marks flags₀ k₀ flags k = to-go k

@@ -1,5 +1,5 @@
 -- No fluent is sensed below the one that it starts from.
-use Rattle.steps.proofs.LookLaws.{back-within, first-from}
+use Rattle.steps.proofs.LookAs.{back-within, first-from}
 use borrow.Author.Needs.{needs}
 use Rattle.steps.proofs.sensing.first_unknown.Statement.{statement}
 use Rattle.steps.proofs.sensing.first_unknown.Tie as tie

@@ -1,5 +1,5 @@
 -- The notes have a largest sensed fluent exactly where the action has a knowledge line.
-use Rattle.steps.proofs.LookLaws.{sensing-is}
+use Rattle.steps.proofs.LookAs.{sensing-is}
 use borrow.Author.Needs.{needs}
 use Rattle.steps.proofs.sensing.is_sensing.Statement.{statement}
 use Rattle.steps.proofs.sensing.is_sensing.Tie as tie

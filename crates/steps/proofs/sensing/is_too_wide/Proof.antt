@@ -10,9 +10,10 @@ use Rattle.steps.proofs.sensing.is_too_wide.Reads as reads
 use Rattle.steps.proofs.sensing.is_too_wide.Lts as lts
 use Rattle.steps.proofs.sensing.first_unknown.Reads as first-unknown-reads
 use Rattle.steps.proofs.sensing.next_unknown.Reads as next-unknown-reads
+use Rattle.meaning.specs.declared.Form.the-variants.{Flags}
 
 abbrev Inv-loop : tie.InvT-loop
-Inv-loop s t a marks met₀ f₀ met f = Counting (table-in s) a marks met f
+Inv-loop s t a marks met₀ f₀ met f = Counting (table-in Flags s) a marks met f
 
 abbrev μ-loop : tie.MeasureT-loop
 μ-loop s t a marks met₀ f₀ met f = most-forked - met

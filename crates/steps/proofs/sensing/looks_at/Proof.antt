@@ -1,5 +1,5 @@
 -- The notes have a bit for each action and fluent, which is there exactly where a knowledge line says so.
-use Rattle.steps.proofs.LookLaws.{looks-is}
+use Rattle.steps.proofs.LookAs.{looks-is}
 use borrow.Author.Needs.{needs}
 use Rattle.steps.proofs.sensing.looks_at.Statement.{statement}
 use Rattle.steps.proofs.sensing.looks_at.Tie as tie

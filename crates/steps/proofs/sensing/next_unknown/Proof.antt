@@ -1,9 +1,6 @@
 -- A turn that finds nothing leaves the first one where it was, and from the end that the notes have no fluent is sensed.
 use Prim.Native.Nat.{_-_}
-use mathlib.Core.Path.{_≡_}
-use Rattle.steps.specs.Held.{table-in}
-use Rattle.steps.specs.Steps.{unknown-above, first-of}
-use Rattle.steps.proofs.LookLaws.{fluent-near, fluent-next-fits, look-found, look-unsensed, look-marked, look-done}
+use Rattle.steps.proofs.LookAs.{fluent-near, fluent-next-fits, Sought, sought-starts, look-found, look-unsensed, look-marked, look-done}
 use borrow.Author.Needs.{needs}
 use Rattle.steps.proofs.sensing.next_unknown.Statement.{statement}
 use Rattle.steps.proofs.sensing.next_unknown.Tie as tie
@@ -13,7 +10,7 @@ use Rattle.reading.proofs.notes.get.Reads as get-reads
 use Rattle.reading.proofs.notes.is_noted.Reads as is-noted-reads
 
 abbrev Inv-loop : tie.InvT-loop
-Inv-loop s t a from marks last end f₀ f = first-of (unknown-above (table-in s) a marks from) ≡ first-of (unknown-above (table-in s) a marks f)
+Inv-loop s t a from marks last end f₀ f = Sought s t a marks from f
 
 abbrev μ-loop : tie.MeasureT-loop
 μ-loop s t a from marks last end f₀ f = end - f
@@ -28,7 +25,7 @@ get-requires c κs = search needs
 
 -- src/sensing.rt:47:5
 loop-holds : tie.Need-loop-holds Inv-loop μ-loop
-loop-holds c = search needs
+loop-holds c = search sought-starts
 
 -- src/sensing.rt:49:9
 add-f : tie.Need-add-f Inv-loop μ-loop

@@ -1,56 +1,38 @@
--- By the mode of the walk.
-use Rattle.steps.proofs.TriedLaws.{known-tried, known-stuck, narrow-tried, cases-tried}
+-- By the form, the action is tried one way or the other.
+use Rattle.steps.proofs.FormSteps.{flags-hand, flags-marked, flags-tried, values-hand, values-marked, values-tried}
 use borrow.Author.Needs.{needs}
 use Rattle.steps.proofs.trying.tried.Statement.{statement}
 use Rattle.steps.proofs.trying.tried.Tie as tie
 use Rattle.steps.proofs.trying.tried.Reads as reads
 use Rattle.steps.proofs.trying.tried.Lts as lts
-use Rattle.reading.proofs.notes.get.Reads as get-reads
-use Rattle.steps.proofs.actions.can_be_run.Reads as can-be-run-reads
-use Rattle.steps.proofs.cases.try_cases.Reads as try-cases-reads
-use Rattle.steps.proofs.trying.try_narrow.Reads as try-narrow-reads
+use Rattle.steps.proofs.trying.try_flags.Reads as try-flags-reads
+use Rattle.steps.proofs.trying.try_valued.Reads as try-valued-reads
 
--- src/trying.rt:54:9
-get-requires : tie.Need-get-requires
-get-requires c κs = search needs
+-- src/trying.rt:98:24
+enum-told : tie.Need-enum-told
+enum-told c = search needs
 
--- src/trying.rt:56:13
-can-be-run-requires : tie.Need-can-be-run-requires
-can-be-run-requires c κs = search needs
+-- src/trying.rt:98:24
+try-flags-requires : tie.Need-try-flags-requires
+try-flags-requires c κs = search (needs, flags-hand, flags-marked)
 
--- src/trying.rt:58:13
+-- src/trying.rt:99:25
+enum-told-2 : tie.Need-enum-told-2
+enum-told-2 c = search needs
+
+-- src/trying.rt:99:25
+try-valued-requires : tie.Need-try-valued-requires
+try-valued-requires c κs = search (needs, values-hand, values-marked)
+
+-- src/trying.rt:91:1
 returns : tie.Need-returns
-returns c = search known-tried
+returns c = search flags-tried
 
--- src/trying.rt:60:9
+-- src/trying.rt:91:1
 returns-2 : tie.Need-returns-2
-returns-2 c = search known-stuck
-
--- src/trying.rt:63:9
-try-narrow-requires : tie.Need-try-narrow-requires
-try-narrow-requires c κs = search needs
-
--- src/trying.rt:63:9
-returns-3 : tie.Need-returns-3
-returns-3 c = search narrow-tried
-
--- src/trying.rt:65:5
-try-cases-requires : tie.Need-try-cases-requires
-try-cases-requires c κs = search needs
-
--- src/trying.rt:48:1
-returns-4 : tie.Need-returns-4
-returns-4 c = search cases-tried
+returns-2 c = search values-tried
 
 pub tried-spec : {M : Type 1} → statement M
 tried-spec =
     tie.close
-    (tie.spec
-    get-requires
-    can-be-run-requires
-    returns
-    returns-2
-    try-narrow-requires
-    returns-3
-    try-cases-requires
-    returns-4)
+    (tie.spec enum-told try-flags-requires enum-told-2 try-valued-requires returns returns-2)

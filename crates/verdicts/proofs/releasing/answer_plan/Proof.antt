@@ -1,5 +1,7 @@
 -- An overlap is refused at its place; else the walk of the request at hand is what the definition says.
 use borrow.Author.Needs.{needs}
+use Rattle.bytes.proofs.LineReaderLaws.{counted-flags}
+use Rattle.verdicts.proofs.WalkedLaws.{plain-mode}
 use Rattle.verdicts.proofs.ReleasingLaws.{plan-there, plan-walked, plan-18}
 use Rattle.verdicts.proofs.releasing.answer_plan.Statement.{statement}
 use Rattle.verdicts.proofs.releasing.answer_plan.Tie as tie
@@ -16,7 +18,7 @@ get-requires c κs = search needs
 
 -- src/releasing.rt:85:11
 overlap-requires : tie.Need-overlap-requires
-overlap-requires c κs = search plan-there
+overlap-requires c κs = (search counted-flags, search plan-there)
 
 -- src/releasing.rt:87:17
 enum-told : tie.Need-enum-told
@@ -28,7 +30,7 @@ slice-aggregate-walk-plan c = search needs
 
 -- src/releasing.rt:88:13
 walk-plan-requires : tie.Need-walk-plan-requires
-walk-plan-requires c κs = search needs
+walk-plan-requires c κs = (search needs, (search plain-mode, search needs))
 
 -- src/releasing.rt:90:19
 enum-known-p : tie.Need-enum-known-p

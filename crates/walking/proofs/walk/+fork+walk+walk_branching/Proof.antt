@@ -1,18 +1,20 @@
 -- Each return is one law that adds what was walked to how the walk stood. At each call the position rises, or in a fork the fluent does, so
 -- the cycle ends.
-use Rattle.steps.proofs.LookLaws.{first-marked, second-marked}
-use Rattle.steps.proofs.ModeLaws.{after-marked}
+use Prim.Native.Nat.{_-_}
+use lib.ListN.{getD}
+use Rattle.steps.specs.Steps.{form-in, values-as}
+use Rattle.walking.proofs.FitLaws.{fit-forgotten, fit-after}
 use Rattle.walking.proofs.FallLaws.{walk-measure, branching-measure, fork-measure, fork-falls, fork-walk-falls, walk-branching-falls, walk-fork-falls, branching-walk-falls, follow-falls, followed-position, chosen-position, marked-sized, opens-branching, is-branching, action-here}
-use Rattle.walking.proofs.WalkArms.{going-after-fork, going-after-walk, going-after-one, walking-counted, action-low, item-stuck, refused-stateless, item-many, ran-there, run-spent, run-moves, run-forks, run-sees, branch-taken, none-taken, Walking, walking-starts, walking-here, walking-there, walking-marked, walking-sized, walking-going, walking-later, walking-broken, walking-passed, walking-ends, walking-judged, walking-on, passed-lacks}
-use Rattle.walking.proofs.ForkLaws.{fork-rises, fork-stops, fork-forks, last-stops, last-walks}
+use Rattle.walking.proofs.WalkArms.{going-after-one, walking-counted, action-low, item-stuck, refused-stateless, item-many, ran-there, run-spent, run-moves, run-forks, run-sees, branch-taken, none-taken, Walking, walking-starts, walking-here, walking-there, walking-marked, walking-sized, walking-going, walking-later, walking-broken, walking-passed, walking-ends, walking-judged, walking-on, passed-lacks}
+use Rattle.walking.proofs.ForkLaws.{to-read, Forking, fork-rises, forking-starts, forking-going, forking-fits, forking-fit, forking-less, forking-forks, forking-walks, forking-ends}
 use Rattle.walking.proofs.StandingLaws.{notable}
 use Rattle.walking.proofs.PlacesFit.{item-fits}
 use Rattle.steps.proofs.OnwardLaws.{item-inside, action-small, place-fits, place-there}
+use Rattle.meaning.specs.Limits.{format}
 use borrow.Author.Needs.{needs}
-use Prim.Native.Nat.{ℕ, _-_, _<_}
+use Prim.Native.Nat.{ℕ, _<_}
 use borrow.Fn.Kinds.{In}
 use borrow.Fn.PlainCycle.{Measures, is, falls, and}
-use Rattle.meaning.specs.Limits.{format}
 use Rattle.walking.proofs.walk.fork.Reads as fork
 use Rattle.walking.proofs.walk.fork.Kinds as fork-kinds
 use Rattle.walking.proofs.walk.+fork+walk+walk_branching.Lts-fork as fork-lts
@@ -24,19 +26,20 @@ use Rattle.walking.proofs.walk.walk_branching.Kinds as walk-branching-k
 use Rattle.walking.proofs.walk.+fork+walk+walk_branching.Lts-walk_branching as walk-branching-lts
 use Rattle.bytes.proofs.bytes.wide.Reads as wide-reads
 use Rattle.reading.proofs.notes.get.Reads as get-reads
-use Rattle.steps.proofs.onward.chosen.Reads as chosen-reads
-use Rattle.steps.proofs.onward.follow.Reads as follow-reads
-use Rattle.steps.proofs.sensing.first_unknown.Reads as first-unknown-reads
-use Rattle.steps.proofs.sensing.is_sensing.Reads as is-sensing-reads
-use Rattle.steps.proofs.sensing.next_unknown.Reads as next-unknown-reads
-use Rattle.steps.proofs.trying.after.Reads as after-reads
 use Rattle.steps.proofs.trying.refused.Reads as refused-reads
-use Rattle.steps.proofs.trying.tried.Reads as tried-reads
+use Rattle.walking.proofs.asked.after.Reads as after-reads
+use Rattle.walking.proofs.asked.chosen.Reads as chosen-reads
+use Rattle.walking.proofs.asked.first_unknown.Reads as first-unknown-reads
+use Rattle.walking.proofs.asked.follow.Reads as follow-reads
+use Rattle.walking.proofs.asked.is_sensing.Reads as is-sensing-reads
+use Rattle.walking.proofs.asked.next_unknown.Reads as next-unknown-reads
+use Rattle.walking.proofs.asked.tried.Reads as tried-reads
 use Rattle.walking.proofs.tally.count_one.Reads as count-one-reads
 use Rattle.walking.proofs.tally.give_up.Reads as give-up-reads
 use Rattle.walking.proofs.tally.goes_on.Reads as goes-on-reads
 use Rattle.walking.proofs.tally.note.Reads as note-reads
 use Rattle.walking.proofs.walk.breaks.Reads as breaks-reads
+use Rattle.walking.proofs.walk.has_more.Reads as has-more-reads
 use Rattle.walking.proofs.walk.judge_end.Reads as judge-end-reads
 use Rattle.walking.proofs.walk.+fork+walk+walk_branching.{statement}
 use Rattle.walking.proofs.walk.+fork+walk+walk_branching.Tie.{close}
@@ -78,8 +81,26 @@ walk-branching-below t =
     (falls 3 walk-branching-kinds.ps _<_ μ-walk-branching t)
     walk-branching.Pre
 
--- src/walk.rt:182:13
-fork-returns : (t : ℕ) → fork-lts.Need-returns (
+abbrev fork-Inv-loop : fork-lts.InvT-loop
+fork-Inv-loop s t i f tally₀ slot p a above state₀ g more₀ tally state more = Forking s t i f state₀ tally₀ tally state more
+
+abbrev fork-μ-loop : fork-lts.MeasureT-loop
+fork-μ-loop s t i f tally₀ slot p a above state₀ g more₀ tally state more = to-read more (values-as (form-in t) s f - getD state f 0)
+
+abbrev fork-Inv-loop2 : fork-lts.InvT-loop2
+fork-Inv-loop2 s t i f tally₀ slot p a above state₀ g more₀ at tally state more = Forking s t i f state₀ tally₀ tally state more
+
+abbrev fork-μ-loop2 : fork-lts.MeasureT-loop2
+fork-μ-loop2 s t i f tally₀ slot p a above state₀ g more₀ at tally state more = to-read more (values-as (form-in t) s f - getD state f 0)
+
+abbrev walk-Inv-loop : walk-lts.InvT-loop
+walk-Inv-loop s t at tally₀ i₀ state₀ tally i state = Walking s t at state₀ tally₀ tally i state
+
+abbrev walk-μ-loop : walk-lts.MeasureT-loop
+walk-μ-loop s t at tally₀ i₀ state₀ tally i state = format .items - i
+
+-- src/walk.rt:195:9
+fork-loop-holds : (t : ℕ) → fork-lts.Need-loop-holds (
   get-reads.Asked,
   get-reads.Learnt,
   wide-reads.Asked,
@@ -88,22 +109,35 @@ fork-returns : (t : ℕ) → fork-lts.Need-returns (
   next-unknown-reads.Learnt,
   fork-below t,
   fork.Post,
-  goes-on-reads.Asked,
-  goes-on-reads.Learnt,
+  has-more-reads.Asked,
+  has-more-reads.Learnt,
   follow-reads.Asked,
   follow-reads.Learnt,
   walk-below t,
   walk.Post,
-) (fork-at t) fork.Post
-fork-returns t c = search fork-forks
+) (fork-at t) fork.Post fork-Inv-loop fork-μ-loop fork-Inv-loop2 fork-μ-loop2
+fork-loop-holds t c = search forking-starts
 
-abbrev walk-Inv-loop : walk-lts.InvT-loop
-walk-Inv-loop s t at tally₀ i₀ state₀ tally i state = Walking s t at state₀ tally₀ tally i state
+-- src/walk.rt:195:9
+fork-loop-again : (t : ℕ) → fork-lts.Need-loop-again (
+  get-reads.Asked,
+  get-reads.Learnt,
+  wide-reads.Asked,
+  wide-reads.Learnt,
+  next-unknown-reads.Asked,
+  next-unknown-reads.Learnt,
+  fork-below t,
+  fork.Post,
+  has-more-reads.Asked,
+  has-more-reads.Learnt,
+  follow-reads.Asked,
+  follow-reads.Learnt,
+  walk-below t,
+  walk.Post,
+) (fork-at t) fork.Post fork-Inv-loop fork-μ-loop fork-Inv-loop2 fork-μ-loop2
+fork-loop-again t c = forking-forks _ _ _ _ _ (c .before .before .before .before .before .before .before .before .before .before .before .before .before .pre .1 .1 .1 .1 .0) _ _ _ _ (c .before .before .before .before .before .loop .inv) (c .before .before .before .before .loop-test .taken) _ _ (c .before .before .before .before .before .before .before .before .before .before .before .get .ensures) (c .before .before .before .before .before .before .before .before .before .wide .ensures) _ (c .before .before .before .before .before .before .before .next-unknown .ensures) _ _ (c .has-more .ensures) (c .before .before .before .before .before .before .if1 .taken) (c .before .before .fork .ensures)
 
-abbrev walk-μ-loop : walk-lts.MeasureT-loop
-walk-μ-loop s t at tally₀ i₀ state₀ tally i state = format .items - i
-
--- src/walk.rt:155:13
+-- src/walk.rt:158:13
 walk-branching-returns-2 : (t : ℕ) → walk-branching-lts.Need-returns-2 (
   chosen-reads.Asked,
   chosen-reads.Learnt,
@@ -126,8 +160,8 @@ pub +fork+walk+walk-branching-spec : {M : Type 1} → statement M
   next-unknown-reads.Learnt,
   fork-below t,
   fork.Post,
-  goes-on-reads.Asked,
-  goes-on-reads.Learnt,
+  has-more-reads.Asked,
+  has-more-reads.Learnt,
   follow-reads.Asked,
   follow-reads.Learnt,
   walk-below t,
@@ -135,26 +169,38 @@ pub +fork+walk+walk-branching-spec : {M : Type 1} → statement M
 )
     (fork-at t)
     fork.Post
+    fork-Inv-loop
+    fork-μ-loop
+    fork-Inv-loop2
+    fork-μ-loop2
     (λ c. search place-fits)
     (λ c κs. search place-there)
     (λ c. search item-inside)
     (λ c κs. search needs)
     (λ c. search needs)
     (λ c. search needs)
-    (λ c κs. (search needs, (search action-here, search first-marked)))
-    (λ c κs. (search (fork-falls, fork-rises), (search needs, (search needs, (search needs, (search needs, (search first-marked, search needs)))))))
-    (λ c κs. search needs)
+    (λ c κs. (search needs, (search action-here, search fit-forgotten)))
+    (fork-loop-holds t)
     (λ c. search needs)
-    (λ c κs. (search (fork-falls, fork-rises), (search needs, (search needs, (search needs, (search needs, (search second-marked, going-after-fork _ _ _ _ _ _ _ (search needs) (search needs) (c .before .before .before .before .fork .ensures) _ (c .before .before .goes-on .ensures) (c .before .if2 .taken))))))))
-    (fork-returns t)
-    (λ c. search fork-stops)
-    (λ c κs. search needs)
-    (λ c κs. (search fork-walk-falls, (search needs, (search followed-position, (search first-marked, search needs)))))
-    (λ c κs. search needs)
+    (λ c. search forking-fits)
     (λ c. search needs)
-    (λ c κs. (search fork-walk-falls, (search needs, (search followed-position, (search second-marked, going-after-walk _ _ _ _ _ _ (search needs) (search needs) (c .before .before .before .before .walk .ensures) _ (c .before .before .goes-on2 .ensures) (c .before .if3 .taken))))))
-    (λ c. search last-walks)
-    (λ c. search last-stops))
+    (λ c κs. (fork-falls _ _ _ _ (c .before .before .before .before .before .before .before .before .before .before .pre .0) (fork-rises _ _ _ _ (c .before .before .before .before .before .before .before .before .before .before .pre .1 .1 .1 .1 .0) (c .before .before .before .before .before .before .before .before .before .before .pre .1 .1 .1 .1 .1 .0) _ _ (c .before .before .before .before .next-unknown .ensures) (c .before .before .before .if1 .taken)) (c .before .before .before .if1 .taken), (search needs, (search needs, (search needs, (search needs, (forking-fit _ _ _ _ _ (c .before .before .before .before .before .before .before .before .before .before .pre .1 .1 .1 .1 .0) _ _ _ _ (c .before .before .loop .inv) (c .before .loop-test .taken), search forking-going)))))))
+    (λ c. search needs)
+    (λ c κs. search needs)
+    (λ c. search forking-less)
+    (fork-loop-again t)
+    (λ c. search forking-ends)
+    (λ c κs. search needs)
+    (λ c. search forking-starts)
+    (λ c. search needs)
+    (λ c. search forking-fits)
+    (λ c. search needs)
+    (λ c κs. (search fork-walk-falls, (search needs, (search followed-position, (forking-fit _ _ _ _ _ (c .before .before .before .before .before .before .before .before .before .before .before .pre .1 .1 .1 .1 .0) _ _ _ _ (c .before .before .loop2 .inv) (c .before .loop2-test .taken), search forking-going)))))
+    (λ c. search needs)
+    (λ c κs. search needs)
+    (λ c. search forking-less)
+    (λ c. forking-walks _ _ _ _ _ (c .before .before .before .before .before .before .before .before .before .before .before .before .before .before .pre .1 .1 .1 .1 .0) _ _ _ _ (c .before .before .before .before .before .loop2 .inv) (c .before .before .before .before .loop2-test .taken) _ _ (c .before .before .before .before .before .before .before .before .before .before .before .before .get .ensures) (c .before .before .before .before .before .before .before .before .before .before .wide .ensures) _ (c .before .before .before .before .before .before .before .before .next-unknown .ensures) _ _ (c .has-more2 .ensures) (c .before .before .before .before .before .before .before .if1 .left) _ (c .before .before .before .before .before .before .follow .ensures) (c .before .before .walk .ensures))
+    (λ c. search forking-ends))
     (λ t. walk-lts.spec (
       breaks-reads.Asked,
       breaks-reads.Learnt,
@@ -217,7 +263,7 @@ pub +fork+walk+walk-branching-spec : {M : Type 1} → statement M
     (λ c κs. (search needs, (search (action-small, walking-there), (search walking-marked, ran-there _ _ _ _ _ (c .before .before .before .before .before .before .before .before .before .before .tried .ensures) (c .before .before .before .before .before .before .before .before .enum-told .given .1)))))
     (λ c κs. (search needs, search walking-there))
     (λ c. search follow-falls)
-    (λ c. walking-on _ _ _ _ _ _ _ _ (c .before .before .before .before .before .before .before .before .before .before .before .before .before .before .before .before .before .before .before .before .before .before .before .before .loop .inv) _ _ (c .before .before .before .before .before .before .before .before .before .before .before .before .before .before .before .before .before .before .before .before .breaks .ensures) (c .before .before .before .before .before .before .before .before .before .before .before .before .before .before .before .before .before .before .before .if1 .left) _ (walking-counted _ _ _ _ _ _ _ _ (c .before .before .before .before .before .before .before .before .before .before .before .before .before .before .before .before .before .before .before .before .before .before .before .before .loop .inv) _ _ (c .before .before .before .before .before .before .before .before .before .before .before .before .before .before .before .before .before .before .before .before .breaks .ensures) (c .before .before .before .before .before .before .before .before .before .before .before .before .before .before .before .before .before .before .before .if1 .left) _ (c .before .before .before .before .before .before .before .before .count-one .ensures) _ (c .before .before .before .before .before .before .goes-on .ensures) (c .before .before .before .before .before .if3 .taken)) _ (after-marked _ _ _ _ _ (walking-marked _ _ _ _ _ _ _ _ (c .before .before .before .before .before .before .before .before .before .before .before .before .before .before .before .before .before .before .before .before .before .before .before .before .loop .inv)) (c .before .after .ensures)) _ (c .follow2 .ensures) (run-moves _ _ (walking-here _ _ _ _ _ _ _ _ (c .before .before .before .before .before .before .before .before .before .before .before .before .before .before .before .before .before .before .before .before .before .before .before .before .loop .inv)) _ (walking-there _ _ _ _ _ _ _ _ (c .before .before .before .before .before .before .before .before .before .before .before .before .before .before .before .before .before .before .before .before .before .before .before .before .loop .inv) (c .before .before .before .before .before .before .before .before .before .before .before .before .before .before .before .before .before .before .before .before .before .before .before .loop-test .taken)) _ (c .before .before .before .before .before .before .before .before .before .before .before .before .before .before .before .before .before .before .get .ensures) (c .before .before .before .before .before .before .before .before .before .before .before .before .before .before .before .before .if2 .left) _ (c .before .before .before .before .before .before .before .before .before .before .before .before .before .before .wide .ensures) _ _ (walking-passed _ _ _ _ _ _ _ _ (c .before .before .before .before .before .before .before .before .before .before .before .before .before .before .before .before .before .before .before .before .before .before .before .before .loop .inv) _ _ (c .before .before .before .before .before .before .before .before .before .before .before .before .before .before .before .before .before .before .before .before .breaks .ensures) (c .before .before .before .before .before .before .before .before .before .before .before .before .before .before .before .before .before .before .before .if1 .left)) _ (c .before .before .before .before .before .before .before .before .before .before .before .before .tried .ensures) (c .before .before .before .before .before .before .before .before .before .before .enum-told .given .1) _ (c .before .before .before .before .before .before .before .before .count-one .ensures) _ (c .before .before .before .before .is-sensing .ensures) (c .before .before .before .if4 .left) _ (c .before .after .ensures) _ (c .follow2 .ensures)))
+    (λ c. walking-on _ _ _ _ _ _ _ _ (c .before .before .before .before .before .before .before .before .before .before .before .before .before .before .before .before .before .before .before .before .before .before .before .before .loop .inv) _ _ (c .before .before .before .before .before .before .before .before .before .before .before .before .before .before .before .before .before .before .before .before .breaks .ensures) (c .before .before .before .before .before .before .before .before .before .before .before .before .before .before .before .before .before .before .before .if1 .left) _ (walking-counted _ _ _ _ _ _ _ _ (c .before .before .before .before .before .before .before .before .before .before .before .before .before .before .before .before .before .before .before .before .before .before .before .before .loop .inv) _ _ (c .before .before .before .before .before .before .before .before .before .before .before .before .before .before .before .before .before .before .before .before .breaks .ensures) (c .before .before .before .before .before .before .before .before .before .before .before .before .before .before .before .before .before .before .before .if1 .left) _ (c .before .before .before .before .before .before .before .before .count-one .ensures) _ (c .before .before .before .before .before .before .goes-on .ensures) (c .before .before .before .before .before .if3 .taken)) _ (fit-after _ _ _ (walking-marked _ _ _ _ _ _ _ _ (c .before .before .before .before .before .before .before .before .before .before .before .before .before .before .before .before .before .before .before .before .before .before .before .before .loop .inv)) _ _ (c .before .after .ensures)) _ (c .follow2 .ensures) (run-moves _ _ (walking-here _ _ _ _ _ _ _ _ (c .before .before .before .before .before .before .before .before .before .before .before .before .before .before .before .before .before .before .before .before .before .before .before .before .loop .inv)) _ (walking-there _ _ _ _ _ _ _ _ (c .before .before .before .before .before .before .before .before .before .before .before .before .before .before .before .before .before .before .before .before .before .before .before .before .loop .inv) (c .before .before .before .before .before .before .before .before .before .before .before .before .before .before .before .before .before .before .before .before .before .before .before .loop-test .taken)) _ (c .before .before .before .before .before .before .before .before .before .before .before .before .before .before .before .before .before .before .get .ensures) (c .before .before .before .before .before .before .before .before .before .before .before .before .before .before .before .before .if2 .left) _ (c .before .before .before .before .before .before .before .before .before .before .before .before .before .before .wide .ensures) _ _ (walking-passed _ _ _ _ _ _ _ _ (c .before .before .before .before .before .before .before .before .before .before .before .before .before .before .before .before .before .before .before .before .before .before .before .before .loop .inv) _ _ (c .before .before .before .before .before .before .before .before .before .before .before .before .before .before .before .before .before .before .before .before .breaks .ensures) (c .before .before .before .before .before .before .before .before .before .before .before .before .before .before .before .before .before .before .before .if1 .left)) _ (c .before .before .before .before .before .before .before .before .before .before .before .before .tried .ensures) (c .before .before .before .before .before .before .before .before .before .before .enum-told .given .1) _ (c .before .before .before .before .before .before .before .before .count-one .ensures) _ (c .before .before .before .before .is-sensing .ensures) (c .before .before .before .if4 .left) _ (c .before .after .ensures) _ (c .follow2 .ensures)))
     (λ c. search (walking-ends, run-spent, walking-there, walking-passed))
     (λ c. search needs)
     (λ c κs. (search walking-passed, (search walking-sized, (search (needs, notable), search (item-fits, walking-there)))))

@@ -2,6 +2,7 @@
 use Rattle.walking.proofs.WalkArms.{breaks-noted, breaks-none}
 use Rattle.walking.proofs.StandingLaws.{notable}
 use Rattle.walking.proofs.PlacesFit.{guard-fits}
+use Rattle.walking.proofs.FitLaws.{fit-sized}
 use borrow.Author.Needs.{needs}
 use Rattle.walking.proofs.walk.breaks.Statement.{statement}
 use Rattle.walking.proofs.walk.breaks.Tie as tie
@@ -20,7 +21,7 @@ enum-known-p c = search needs
 
 -- src/walk.rt:46:13
 note-requires : tie.Need-note-requires
-note-requires c κs = (search needs, (search needs, (search (needs, notable), search guard-fits)))
+note-requires c κs = (search needs, (search fit-sized, (search (needs, notable), search guard-fits)))
 
 -- src/walk.rt:49:27
 enum-told : tie.Need-enum-told

@@ -2,6 +2,7 @@
 use Rattle.walking.proofs.WalkArms.{counts-going, judged-missed, judged-fine, judged-before}
 use Rattle.walking.proofs.StandingLaws.{notable}
 use Rattle.walking.proofs.PlacesFit.{missed-fits}
+use Rattle.walking.proofs.FitLaws.{fit-sized}
 use borrow.Author.Needs.{needs}
 use Rattle.walking.proofs.walk.judge_end.Statement.{statement}
 use Rattle.walking.proofs.walk.judge_end.Tie as tie
@@ -29,7 +30,7 @@ enum-known-p c = search needs
 
 -- src/walk.rt:64:17
 note-requires : tie.Need-note-requires
-note-requires c κs = (search counts-going, (search needs, (search (needs, notable), search missed-fits)))
+note-requires c κs = (search counts-going, (search fit-sized, (search (needs, notable), search missed-fits)))
 
 -- src/walk.rt:65:17
 returns : tie.Need-returns

@@ -5,27 +5,27 @@ use mathlib.Core.Path.{_≡_, refl, sym, _∙_, subst}
 use mathlib.Core.Bool.{true}
 use mathlib.Core.List.{List}
 use lib.ListN.{length}
 use Rattle.meaning.specs.Tests.{both, either, fails, some-of, each-of}
 use Rattle.meaning.specs.Limits
 use Rattle.meaning.specs.Limits.{Limits}
 use Rattle.meaning.specs.Literals.{among}
 use Rattle.meaning.specs.Requests.{Request-over, Request}
 use Rattle.meaning.specs.Reading.{Got, got, fault, literals-in}
 use Rattle.meaning.specs.Refusals.{at}
 use Rattle.meaning.specs.States.{State}
 use Rattle.meaning.specs.Walk.{Concerned, in-state, End, fine, missed, stopped, Step}
 use Rattle.meaning.specs.Values.{Literals}
 use Rattle.meaning.specs.ValueStates.{known, known-whether, first-state, outcome, table-does, table-step, missed-in, judged, walked}
 use Rattle.meaning.specs.Valued.{settled-values, walk-of, judge-values}
 use Rattle.meaning.specs.Answers.{refusals, values-refusals, answers, values-answers}
 use Rattle.meaning.specs.AnswerParts.{of-neither, Walk-input, at-start, Placed, of-walks, Values-count, stated, Values-state}
 use Rattle.meaning.proofs.PickLaws.{pick-has}
 use Rattle.meaning.proofs.RefusalLaws.{at≢nowhere}
 use Rattle.meaning.proofs.KeptEnds.{On-places, on-places, any-outcome, End-so, Step-so, walk-so, end-of-so, Stuck}
 use Rattle.meaning.proofs.WithinLaws.{Never, so-never}
 use Rattle.meaning.proofs.PlaceLaws.{Found-below, Request-below, or-below, first-missed-below, End-below}
 use Rattle.meaning.proofs.JudgedParts.{Tells, Stop-told, Stops-told, Walks-within, Parts, judged-parts}
-use Rattle.demands.proofs.ValuePlaces.{Values-held, values-settled-held}
+use Rattle.meaning.proofs.ValuePlaces.{Values-held, values-settled-held}
 
 -- THE WALK of a request over any structure of literals: what is so of each miss and of each item that can't be run is so of its end.
 module _ {L : Type 0} (ls : Literals L) (r : Request-over L) where

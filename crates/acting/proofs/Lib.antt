@@ -1,0 +1,5 @@
+pub mod ActingMarks
+pub mod ValueApart
+pub mod ValueSweeps
+pub mod RunLaws
+pub mod EffectLaws
