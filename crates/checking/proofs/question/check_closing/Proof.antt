@@ -45,7 +45,7 @@ shared-slice-read-wide-2 c = search closing-there
 wide-requires-2 : tie.Need-wide-requires-2
 wide-requires-2 c κs = search needs
 
--- src/question.rt:148:9
+-- src/question.rt:150:9
 returns : tie.Need-returns
 returns c = search closing-not-due
 
