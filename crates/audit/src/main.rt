@@ -1,4 +1,7 @@
 // Checks the derivation in one file against the request in another, and says so on standard output (FORMAT 12.8 to 12.12, 17.44).
+
+#![tactic(auto)]
+
 ghost use Rattle.programs.specs.Input.{Within};
 
 use glintstring::check_calls::{check, check_whether};

@@ -1,4 +1,7 @@
 // Readers of bytes, numbers, lists and lines, each equal to one definition: from the left, what stands at a place, or the first fault met.
+
+#![tactic(auto)]
+
 pub mod limits; // every limit, refusal and mark
 pub mod bits; // the bits of a number
 pub mod bytes; // bytes, numbers and counts

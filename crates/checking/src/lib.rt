@@ -1,4 +1,7 @@
 // Derivations checked: the lines in order, the question, the whole.
+
+#![tactic(auto)]
+
 pub mod refusal_numbers; // what refuses a line or the closing list
 pub mod each_line; // the lines in order
 pub mod question; // the question, by the last line or by the closing list

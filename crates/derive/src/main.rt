@@ -1,4 +1,7 @@
 // Writes a derivation of what the request on standard input asks to standard output (FORMAT 24.21, 24.22).
+
+#![tactic(auto)]
+
 use bytes::limits;
 use glintstring::derives::derive;
 use libc::STDIN_FILENO;

@@ -1,4 +1,7 @@
 // Reading a derivation, and what is refused of it.
+
+#![tactic(auto)]
+
 pub mod rule_numbers; // the rules
 pub mod derivations; // derivations
 pub mod derived; // derivations past refusal 18

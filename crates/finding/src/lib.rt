@@ -1,3 +1,6 @@
 // Finding what a request holds, by the notes that its reading left.
+
+#![tactic(auto)]
+
 pub mod places; // the place of what is sought, or none
 pub mod branches; // from a branch of a plan to the next one

@@ -1,4 +1,7 @@
 // The calls of the verifier.
+
+#![tactic(auto)]
+
 pub mod exports; // the calls as other languages link them
 pub mod judging; // the calls that walk: by what is known, with guards, by cases and by an index
 pub mod indexes; // the index call

@@ -1,4 +1,7 @@
 // Leads an operator through the plan of the request in a file, by readings from standard input (FORMAT 25.17 to 25.20).
+
+#![tactic(auto)]
+
 mod leading; // the actions, until the plan's end
 mod saying; // what is said on standard error
 mod typed; // a line of readings

@@ -1,5 +1,8 @@
 // Answers trials of guides, one after the other from standard input, on standard output (D193): for each a line with the answer of its start, and one for each of its calls.
 // A trial has the budget in four bytes, the length of the request in two, the request, the number of calls in two, and for each call a byte that counts its readings, and these.
+
+#![tactic(auto)]
+
 ghost use Rattle.programs.specs.Input.{Within};
 
 use guidance::Told;

@@ -1,4 +1,7 @@
 // Writes the index of the request on standard input to standard output (FORMAT 23.18).
+
+#![tactic(auto)]
+
 use bytes::limits;
 use glintstring::indexes::index;
 use libc::{STDERR_FILENO, STDIN_FILENO};

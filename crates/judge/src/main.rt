@@ -1,4 +1,7 @@
 // Judges the request on standard input, and says so on standard output (FORMAT 12.1 to 12.6, 12.13, 12.21, 18.17, 21.19, 21.20, 22.16, 23.19, 23.20, 26.92, 26.93).
+
+#![tactic(auto)]
+
 ghost use Rattle.programs.specs.Input.{Within};
 
 use bytes::limits;

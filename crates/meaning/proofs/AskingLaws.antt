@@ -142,4 +142,6 @@ asked_of_action t a s = by_case (asked t a s) (asked_stands t a s)
     one_of x p has at = let w = those_has (λ (y : Executability). eqb y.action a) t.executability x has in (x, w.0, eqb-true _ _ w.1, at)
 
     by_case : (r : Runs) → StandsFor s (executability_of t a) r → OfAction t a r
-    by_case r = elim r [ By p ↦ (λ f. one_of f.here p (first_has f) f.so.1) | Short p ↦ (λ f. one_of f.line.here p (first_has f.line) f.line.so.1) | Never ↦ (λ f. tt) ]
+    by_case (By p) f = one_of f.here p (first_has f) f.so.1
+    by_case (Short p) f = one_of f.line.here p (first_has f.line) f.line.so.1
+    by_case Never f = tt

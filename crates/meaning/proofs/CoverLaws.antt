@@ -15,7 +15,7 @@ use Rattle.meaning.specs.Requests.{Effect, Knowledge, Table, Sequence, done, ite
 use Rattle.meaning.specs.Refusals.{nowhere, conditions_of, all_exclusive}
 use Rattle.meaning.specs.Lines.{sensing}
 use Rattle.meaning.specs.States.{State, known, can_be_run, state_after, outcome_to, outcome}
-use Rattle.meaning.specs.Walk.{in_state, Step, Steps, table_does, table_step}
+use Rattle.meaning.specs.Walk.{in_state, Step, Steps, table_does, table_step, refuses}
 use Rattle.meaning.specs.Paths.{Ending, arrives, stops, Path, first_ran, go_on, meetings, arrivals, paths_step, paths, paths_item, paths_branch}
 use Rattle.meaning.specs.Approximation.{Pair, Disjoint, true_in, ◌≼◌, executable, sensing_action, Res, Result, failed, state, Results, Sensed, Φ, NoneTrue, extended, extended_item, extended_case, Φ̂, Φ̂_item}
 use Rattle.meaning.specs.Reported.{pair_of}
@@ -216,7 +216,7 @@ module _ (t : Table) (size : ℕ) (effects_within : (e : Effect) → Has t.effec
   covers_act p a s δ below x h =
       pick_has (λ (y : Step State). Covered size (paths_step (λ _. nowhere) p a y) x) (can_be_run t a s) _ _
       (λ runs. ran (executable_grows t a below.extends (runs_pair t a s ∙ runs)) x h)
-      (λ _. stops_cover size _ (Limits.not_executable, p, in_state s, inl refl) x)
+      (λ stuck. stops_cover size (paths_step (λ _. nowhere) p a (refuses Limits.not_executable (in_state s))) (Limits.not_executable, p, in_state s, inl refl) x)
     where
       moved : (ε : Pair) → ε ≡ Res t a δ → (pair_of (state_after t a s) ≼ ε) × Disjoint ε
       moved ε is = rw (is, pair_after t a s (λ n m. rw below.sized (effects_within n m))) (ResGrows t a below.extends, ResDisjoint t a δ below.disjoint)

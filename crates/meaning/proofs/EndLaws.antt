@@ -110,6 +110,7 @@ module _ {S : Type 0} where
   -- A list of one path ends as that does.
   pub ends_one : {e g : Ending S} → (e ≡ g) ⊎ ⊥ → e ≡ g
   ends_one (inl q) = q
+  ends_one {e = e} {g = g} (inr none) = elim none [ ]
 
   -- APPENDED, AND GONE ON.
   pub ends_left : (xs ys : List (Path S)) (e : Ending S) → Ends xs e → Ends (xs ++ ys) e
@@ -171,6 +172,7 @@ module _ {S : Type 0} where
         by_ending : (g : Ending S) → g ≡ x.ending → Ends (goes_on x.ran g more) e → WentOn (x ∷ xs) e
         by_ending (arrives u) q k = inr (u, inl q, (ends_ran x.ran (more u) e).0 k)
         by_ending (stops n p u) q (inl k) = inl (n, p, u, inl q, k)
+        by_ending (stops n p u) q (inr none) = elim none [ ]
 
         later : WentOn xs e → WentOn (x ∷ xs) e
         later (inl w) = inl (w.0, w.1, w.2, inr w.3, w.4)

@@ -77,7 +77,9 @@ unfolding allows line_of
 not_run_near t a s not = by_case (asked t a s) (sym (can_be_run_asked t a s) ∙ not) (asked_stands t a s)
   where
     by_case : (r : Runs) → allows r ≡ false → StandsFor s (executability_of t a) r → ((executability_of t a ≡ []) × (line_of r ≡ 0)) ⊎ Nearest s (executability_of t a) (line_of r)
-    by_case r = elim r [ By p ↦ (λ f _. clash refl f) | Short p ↦ (λ _ near. inr near) | Never ↦ (λ _ none. inl (none, refl)) ]
+    by_case (By p) f first = clash refl f
+    by_case (Short p) f near = inr near
+    by_case Never f none = inl (none, refl)
 
 -- Where answer 2 is placed at an action, that action can't be run in the state left: whatever item the walk stopped at has the same first byte.
 module _ (lim : Limits) (room : lim.fluents ≤ lim.state) (b lent : List ℕ) (budget : ℕ) (r : Request) (e : ℕ) (lent_length : length lent ≡ lim.state) (past : settled lim b ≡ got r e) where

@@ -86,6 +86,7 @@ distinct_consistent (x ∷ ls) d l (inr h) (inr k) = distinct_consistent ls d.1 
 readings_end : (fs : List ℕ) (s : State) (e : Ending State) → Ends (arrivals (readings fs s)) e → (ls : List ℕ) × (map fluent_of ls ≡ fs) × (e ≡ arrives (told_all ls s))
 unfolding meetings readings told_all
 readings_end [] s e (inl q) = ([], refl, q)
+readings_end [] s e (inr none) = elim none [ ]
 readings_end (f ∷ fs) s e h =
     ⊎_elim
     (λ k. let w = readings_end fs (told (says_true f) s) e k in (says_true f ∷ w.0, rw (fluent_true f, w.1), w.2))

@@ -1,3 +1,5 @@
+#![tactic(auto)]
+
 // What a call answers: its number, the input that the place is in (1 the request, 2 the derivation, 0 neither),
 // the place, and the count.
 #[derive(Drop)]

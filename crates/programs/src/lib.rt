@@ -1,5 +1,8 @@
 // What the programs share: an input is read as far as a buffer goes, words are known and a budget is read from its digits, an answer is printed
 // as three numbers, its state as signs or as values, what a call has written to a room as it is, and the stack is looked at before a walk.
+
+#![tactic(auto)]
+
 pub mod words; // what the numbers say in words
 
 ghost use Rattle.std.specs.Prelude.{◌≤◌, leb, length, ◌≡◌};

@@ -1,5 +1,8 @@
 // An input and a position in it, held by one struct. Each function over it is proved by a proof by hand through its MIR, and leaves
 // the work to a covered function on the slice and the number.
+
+#![tactic(auto)]
+
 ghost use Rattle.std.specs.Prelude.{◌≡◌};
 
 pub mod whole; // requests, from the left

@@ -1,4 +1,7 @@
 // Answers every plan of the release file on standard input, and says so on standard output (FORMAT 19.21 to 19.24).
+
+#![tactic(auto)]
+
 use bytes::limits;
 use libc::{STDIN_FILENO, STDOUT_FILENO};
 use programs::{

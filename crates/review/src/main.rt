@@ -1,4 +1,7 @@
 // Judges requests, or checks derivations, one after the other, and says in words what is answered (FORMAT 12.30 to 12.41).
+
+#![tactic(auto)]
+
 mod answering;
 mod arguments;
 mod printing;

@@ -1,4 +1,7 @@
 // What the walk asks of a request at hand, by its notes.
+
+#![tactic(auto)]
+
 pub mod actions; // whether an action can be run by what is known, and the state after it
 pub mod opening; // the open fluents of an action
 pub mod cases; // whether an action can be run by cases, and the state after it

@@ -1,4 +1,7 @@
 // Lines of a derivation, written into a room as far as it goes.
+
+#![tactic(auto)]
+
 pub mod rule_bytes; // the rules
 pub mod room; // bytes, numbers, lists and parts of an input
 pub mod rests; // what is left of a plan
