@@ -25,7 +25,7 @@ use Rattle.meaning.specs.Values.{contradictory}
 use Rattle.meaning.specs.ValueStates.{is_known, known, possible, can_be_run, known_after, state_after}
 use Rattle.meaning.proofs.TestLaws.{pick_true, pick_false, those_has, map_has}
 use Rattle.meaning.proofs.PickLaws.{pick_has}
-use Rattle.bytes.specs.Masks.{FewValues}
+use Rattle.parsing.specs.Masks.{FewValues}
 use Rattle.reading.specs.Noted.{effect_lines, line_place, next_line, first_line}
 use Rattle.reading.specs.Listed.{ValuesHere, listed_as}
 use Rattle.reading.specs.Tables.{table_in}

@@ -5,13 +5,13 @@ ghost use Rattle.meaning.specs.Refusals.{nowhere, first_against};
 ghost use Rattle.meaning.specs.Reading.{literals_in};
 ghost use Rattle.meaning.specs.Values.{contradictory};
 ghost use Rattle.meaning.specs.ValueStates.{can_be_run, state_after};
-ghost use Rattle.bytes.specs.Masks.{FewValues};
+ghost use Rattle.parsing.specs.Masks.{FewValues};
 ghost use Rattle.reading.specs.Tables.{table_in};
 ghost use Rattle.valuing.specs.Valuing.{ValuedMarks};
 ghost use Rattle.finding.specs.ValueLines.{ValueEffects, ValueRuns};
 
-use bytes::bytes::two;
-use bytes::limits;
+use parsing::bytes::two;
+use parsing::limits;
 use reading::marks::{Look, Marks};
 use reading::notes;
 use reading::notes::{Notes, first_line, line_place, next_line};

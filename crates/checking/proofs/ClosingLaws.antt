@@ -17,9 +17,9 @@ use Rattle.meaning.specs.Requests.{Request}
 use Rattle.meaning.specs.Reading.{Got, got, fault}
 use Rattle.meaning.specs.Derivations.{Conclusion, knows_whether, Line, Derivation, asks_for, goals_of, check_last, all_asked, names, check_entries, check_closing, check_end}
 use Rattle.meaning.proofs.TestLaws.{pick_true, pick_false}
-use Rattle.bytes.specs.declared.lists.Passed.{Passed}
-use Rattle.bytes.specs.declared.lists.Passed.TheVariants.{To, Fault as Stop}
-use Rattle.bytes.specs.Read.{passed}
+use Rattle.parsing.specs.declared.lists.Passed.{Passed}
+use Rattle.parsing.specs.declared.lists.Passed.TheVariants.{To, Fault as Stop}
+use Rattle.parsing.specs.Read.{passed}
 use Rattle.reading.specs.Listed.{bytes_from, listed, ListHere}
 use Rattle.reading.proofs.MarkLaws.{bytes_next, bytes_done}
 use Rattle.reading.specs.Noted.{goals_slot}

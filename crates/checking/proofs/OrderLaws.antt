@@ -16,8 +16,8 @@ use Rattle.meaning.specs.Requests.{Table}
 use Rattle.meaning.specs.Reading.{Got, fault}
 use Rattle.meaning.specs.Derivations.{Line, follows, citations_of, a_rule, cited_by, check_lines}
 use Rattle.meaning.proofs.TestLaws.{pick_true, pick_false}
-use Rattle.bytes.specs.declared.lists.Passed.TheVariants.{To, Fault as Stop}
-use Rattle.bytes.specs.Read.{passed}
+use Rattle.parsing.specs.declared.lists.Passed.TheVariants.{To, Fault as Stop}
+use Rattle.parsing.specs.Read.{passed}
 use Rattle.deriving.specs.DerivationRead.{plan_ends_slot, places_slots}
 use Rattle.comparing.proofs.SpotLaws.{spot_line}
 use Rattle.checking.specs.Checked.{lines_in, no_line, line_in, spot_in, AllStand, Numbered, refused_by}

@@ -5,8 +5,8 @@ use Rattle.meaning.specs.declared.Layout.TheVariants.{Closing}
 use Rattle.meaning.specs.Tests.{both}
 use Rattle.meaning.specs.Requests.{Request}
 use Rattle.meaning.specs.Derivations.{Conclusion, knows_whether, Line, Derivation, same_list, same_plan, goals_of, names, check_entries, check_closing, check_end}
-use Rattle.bytes.specs.declared.lists.Passed.{Passed}
-use Rattle.bytes.specs.Read.{passed}
+use Rattle.parsing.specs.declared.lists.Passed.{Passed}
+use Rattle.parsing.specs.Read.{passed}
 use Rattle.reading.specs.Listed.{listed}
 use Rattle.deriving.specs.DerivationRead.{lines_end}
 use Rattle.steps.specs.Held.{request_in}

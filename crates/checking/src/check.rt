@@ -1,15 +1,15 @@
 ghost use Rattle.std.specs.Prelude.{◌≡◌};
 ghost use Rattle.meaning.specs.Limits.{format};
 ghost use Rattle.meaning.specs.Derivations.{check_derivation};
-ghost use Rattle.bytes.specs.Read.{passed};
+ghost use Rattle.parsing.specs.Read.{passed};
 ghost use Rattle.steps.specs.Held.{request_in};
 ghost use Rattle.steps.specs.AtHand.{AtHand};
 ghost use Rattle.meaning.specs.declared.Form.TheVariants.{Flags};
 
 use super::each_line::check_lines;
 use super::question::check_end;
-use bytes::bytes::{two, wide};
-use bytes::lists::Passed;
+use parsing::bytes::{two, wide};
+use parsing::lists::Passed;
 use deriving::derivations;
 use deriving::derivations::{PLACES_SLOTS, Places};
 use deriving::derived::settle_derivation;

@@ -2,15 +2,15 @@ ghost use Rattle.std.specs.Prelude.{◌≡◌, [], ◌∷◌, ◌+◌, ◌*◌, 
 ghost use Rattle.meaning.specs.Limits.{format};
 ghost use Rattle.meaning.specs.Literals.{among};
 ghost use Rattle.meaning.specs.Derivations.{for_lists, citations_taken, a_rule, cited_by, given_by, check_lines};
-ghost use Rattle.bytes.specs.Read.{passed};
+ghost use Rattle.parsing.specs.Read.{passed};
 ghost use Rattle.steps.specs.Held.{table_in};
 ghost use Rattle.steps.specs.AtHand.{AtHand};
 ghost use Rattle.checking.specs.Checked.{lines_in, line_in, spot_in, AllStand, Numbered, CitesEarlier, all_below, numbers_from, refused_by};
 ghost use Rattle.meaning.specs.declared.Form.TheVariants.{Flags};
 
 use super::refusal_numbers;
-use bytes::bytes::{two, wide};
-use bytes::lists::Passed;
+use parsing::bytes::{two, wide};
+use parsing::lists::Passed;
 use comparing::spots::{Spot, spot_of};
 use deriving::derivations::Places;
 use deriving::derived::place_of;

@@ -10,8 +10,8 @@ ghost use Rattle.checking.specs.Asked.{conclusion_asked, begins, Names, SomeDeri
 ghost use Rattle.meaning.specs.declared.Form.TheVariants.{Flags};
 
 use super::refusal_numbers;
-use bytes::bytes::{two, wide};
-use bytes::lists::Passed;
+use parsing::bytes::{two, wide};
+use parsing::lists::Passed;
 use comparing::parts::same_lists;
 use comparing::plans::same_plans;
 use comparing::spots::{Spot, spot_of};
@@ -24,7 +24,7 @@ use reading::notes;
 use reading::notes::{Notes, get};
 
 // What a line is asked to conclude: the goals of the request, or that a fluent is known whether.
-#[derive(Drop)]
+#[derive(Clone, Copy)]
 pub enum Asked {
     Goals,
     Fluent(u8),

@@ -20,8 +20,8 @@ use Rattle.meaning.specs.Derivations.{Conclusion, Line, Derivation, Concluded, c
 use Rattle.meaning.proofs.TestLaws.{by-test, clash, either_left, either_right, pick-cases}
 use Rattle.meaning.proofs.SettledLaws.{got_same, refuse_got}
 use Rattle.meaning.proofs.RangeLaws.{not_refused, after_got, count_within, repeated_length}
-use Rattle.bytes.specs.declared.lists.Passed.{Passed}
-use Rattle.bytes.specs.declared.lists.Passed.TheVariants.{To}
+use Rattle.parsing.specs.declared.lists.Passed.{Passed}
+use Rattle.parsing.specs.declared.lists.Passed.TheVariants.{To}
 use Rattle.reading.specs.Noted.{noting, outcome}
 use Rattle.reading.specs.Planned.{bytes_of}
 use Rattle.deriving.specs.DerivationRead.{plan_end, derivation_noted, settled_derivation, plan_ends_slot, places_slots}

@@ -5,8 +5,8 @@ ghost use Rattle.meaning.specs.Derivations.{same_list, included, literals_of};
 ghost use Rattle.reading.specs.Listed.{listed, ListHere};
 ghost use Rattle.steps.specs.AtHand.{Marked};
 
-use bytes::bytes::wide;
-use bytes::limits;
+use parsing::bytes::wide;
+use parsing::limits;
 use reading::marks::{Marks, Test, each_holds, state_of};
 
 // Every literal of the list at p is in the list at q, in which none stands beside its complement.

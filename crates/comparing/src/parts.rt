@@ -3,7 +3,7 @@ ghost use Rattle.meaning.specs.Limits.{all_literals};
 ghost use Rattle.meaning.specs.Derivations.{same_list};
 ghost use Rattle.reading.specs.Listed.{listed, ListHere};
 
-use bytes::bytes::wide;
+use parsing::bytes::wide;
 
 // Two parts hold the same bytes.
 pub fn same_part(one: &[u8], other: &[u8]) -> bool

@@ -2,7 +2,7 @@ ghost use Rattle.std.specs.Prelude.{◌≡◌, ◌+◌, ◌*◌, ◌<◌, length
 ghost use Rattle.comparing.specs.RuleAnswers.{SomePlan, SomeItems, SamePlans, JoinedPlans};
 
 use super::parts::{same_joined, same_part};
-use bytes::bytes::two;
+use parsing::bytes::two;
 
 // The two-byte count at q.
 pub fn count_of(d: &[u8], q: usize) -> usize

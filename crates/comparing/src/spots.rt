@@ -4,7 +4,7 @@ ghost use Rattle.comparing.specs.Stands.{spot_at};
 ghost use Rattle.comparing.specs.RuleAnswers.{SomeAt, SomeLines, SomeConcluded, SameConclusions};
 
 use super::parts::same_lists;
-use bytes::bytes::wide;
+use parsing::bytes::wide;
 use deriving::derivations::{Places, gives_fluent};
 use deriving::derived::{end_of, place_of};
 use finding::branches::sequence_of;
@@ -12,7 +12,7 @@ use meaning::{Form, Layout};
 
 // Where the parts of a line stand: the line with its list X, the end of its plan, its conclusion, the count of its citations. And its
 // rule, and whether its conclusion is a fluent.
-#[derive(Drop)]
+#[derive(Clone, Copy)]
 pub struct Spot {
     pub line: usize,
     pub end: usize,

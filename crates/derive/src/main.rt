@@ -2,7 +2,7 @@
 
 #![tactic(auto)]
 
-use bytes::limits;
+use parsing::limits;
 use glintstring::derives::derive;
 use libc::STDIN_FILENO;
 use programs::{

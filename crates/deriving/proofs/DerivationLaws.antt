@@ -20,19 +20,19 @@ use Rattle.meaning.specs.Derivations.{Conclusion, knows, Line, Derivation, concl
 use Rattle.meaning.proofs.TestLaws.{pick_true, pick_false, either_left, either_right}
 use Rattle.meaning.proofs.SettledLaws.{got_same}
 use Rattle.meaning.proofs.RangeLaws.{after_got}
-use Rattle.bytes.specs.declared.bytes.Read.{Read}
-use Rattle.bytes.specs.declared.bytes.Read.TheVariants.{Value, Fault}
-use Rattle.bytes.specs.declared.lists.Kind.TheVariants.{Literals}
-use Rattle.bytes.specs.declared.lists.Passed.{Passed}
-use Rattle.bytes.specs.declared.lists.Passed.TheVariants.{To, Fault as Stop}
+use Rattle.parsing.specs.declared.bytes.Read.{Read}
+use Rattle.parsing.specs.declared.bytes.Read.TheVariants.{Value, Fault}
+use Rattle.parsing.specs.declared.lists.Kind.TheVariants.{Literals}
+use Rattle.parsing.specs.declared.lists.Passed.{Passed}
+use Rattle.parsing.specs.declared.lists.Passed.TheVariants.{To, Fault as Stop}
 use Rattle.deriving.specs.declared.derivations.Lined.{Lined}
 use Rattle.deriving.specs.declared.derivations.Lined.TheVariants.{To as Through, Fault as Break}
-use Rattle.bytes.specs.Read.{number_read, passed, kind_of}
+use Rattle.parsing.specs.Read.{number_read, passed, kind_of}
 use Rattle.reading.specs.Noted.{noting, outcome}
 use Rattle.reading.specs.Planned.{bytes_of, plan_noted, noting_met, outcome_met}
 use Rattle.deriving.specs.DerivationRead.{plan_end, places_noted, derivation_noted, citing, ending, ended_at, planned, lined, plan_ends_slot, lines_end}
-use Rattle.bytes.proofs.ByteLaws.{read_value, read_fault}
-use Rattle.bytes.proofs.ListLaws.{passed_same, passed_to, passed_stop}
+use Rattle.parsing.proofs.ByteLaws.{read_value, read_fault}
+use Rattle.parsing.proofs.ListLaws.{passed_same, passed_to, passed_stop}
 use Rattle.reading.proofs.PlanSizes.{two_bytes_through, count_through, list_through, sequence_read}
 use Rattle.reading.proofs.NotingLaws.{met_value, met_fault, fault_met}
 use Rattle.reading.proofs.SectionLaws.{got_place, noting_got, noting_fault}

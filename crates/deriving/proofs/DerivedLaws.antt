@@ -18,10 +18,10 @@ use Rattle.meaning.specs.Derivations.{Line, Derivation, concluded_at, closing_at
 use Rattle.meaning.proofs.TestLaws.{by-test, clash, either_right}
 use Rattle.meaning.proofs.SettledLaws.{fault≢got, got_same}
 use Rattle.meaning.proofs.RangeLaws.{not_refused, after_got, repeated_length}
-use Rattle.bytes.specs.declared.bytes.Read.{Read}
-use Rattle.bytes.specs.declared.bytes.Read.TheVariants.{Value, Fault}
-use Rattle.bytes.specs.declared.lists.Passed.{Passed}
-use Rattle.bytes.specs.declared.lists.Passed.TheVariants.{To, Fault as Stop}
+use Rattle.parsing.specs.declared.bytes.Read.{Read}
+use Rattle.parsing.specs.declared.bytes.Read.TheVariants.{Value, Fault}
+use Rattle.parsing.specs.declared.lists.Passed.{Passed}
+use Rattle.parsing.specs.declared.lists.Passed.TheVariants.{To, Fault as Stop}
 use Rattle.finding.specs.declared.places.Found.{Found}
 use Rattle.finding.specs.declared.places.Found.TheVariants.{Nowhere, At}
 use Rattle.reading.specs.Noted.{noting, outcome, slots}
@@ -30,7 +30,7 @@ use Rattle.reading.specs.Planned.{plan_noted, noting_met, outcome_met}
 use Rattle.finding.specs.Places.{found}
 use Rattle.finding.specs.Branches.{sequence_place}
 use Rattle.finding.specs.PlansHeld.{SomePlan}
-use Rattle.bytes.proofs.LineReaderLaws.{counted_flags}
+use Rattle.parsing.proofs.LineReaderLaws.{counted_flags}
 use Rattle.refusing.specs.Refusal18.{OverlapFound}
 use Rattle.deriving.specs.DerivationRead.{plan_end, places_noted, derivation_noted, settled_derivation, plan_ends_slot, lines_end, places_slots}
 use Rattle.deriving.specs.Derived.{LineHere, LinesHere, SomeLines, DerivationHere, LineFound, LinesFound}

@@ -2,14 +2,14 @@ ghost use Rattle.std.specs.Prelude.{◌≡◌, ◌≤◌, ◌<◌, length, set};
 ghost use Rattle.meaning.specs.Limits.{format};
 ghost use Rattle.meaning.specs.Reading.{repeated, two_bytes_at};
 ghost use Rattle.meaning.specs.Derivations.{concludes_fluent, conclusion_at, concluded_at, line_at, closing_at, read_derivation};
-ghost use Rattle.bytes.specs.Read.{passed};
+ghost use Rattle.parsing.specs.Read.{passed};
 ghost use Rattle.reading.specs.Noted.{noting, outcome};
 ghost use Rattle.deriving.specs.DerivationRead.{places_noted, derivation_noted, citing, ending, planned, lined, places_slots};
 
 use super::rule_numbers;
-use bytes::bytes::{Read, below_at, byte_at, count_at, two_bytes_at};
-use bytes::limits;
-use bytes::lists::{Kind, Passed, list_at};
+use parsing::bytes::{Read, below_at, byte_at, count_at, two_bytes_at};
+use parsing::limits;
+use parsing::lists::{Kind, Passed, list_at};
 use meaning::{Form, Layout};
 use reader::{Reader, moved, new};
 use reading::notes::Notes;
@@ -131,7 +131,7 @@ fn end_at(layout: Layout, n: usize, s: &[u8], p: usize) -> Passed
 }
 
 // Where the plan ends and where the line ends; or the fault met.
-#[derive(Drop)]
+#[derive(Clone, Copy)]
 pub enum Lined {
     To(usize, usize),
     Fault(u8, usize),

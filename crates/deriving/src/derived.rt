@@ -1,6 +1,6 @@
 ghost use Rattle.std.specs.Prelude.{◌≡◌, ◌+◌, ◌≤◌, ◌<◌, length, get_or};
 ghost use Rattle.meaning.specs.Limits.{format, all_literals};
-ghost use Rattle.bytes.specs.Read.{passed};
+ghost use Rattle.parsing.specs.Read.{passed};
 ghost use Rattle.reading.specs.Noted.{noting, outcome};
 ghost use Rattle.reading.specs.Listed.{ListHere};
 ghost use Rattle.deriving.specs.DerivationRead.{derivation_noted, settled_derivation, plan_ends_slot, places_slots};
@@ -8,9 +8,9 @@ ghost use Rattle.deriving.specs.Derived.{SomeLines, LineFound, LinesFound};
 
 use super::derivations;
 use super::derivations::{Places, read_derivation};
-use bytes::bytes::{Read, two};
-use bytes::limits;
-use bytes::lists::Passed;
+use parsing::bytes::{Read, two};
+use parsing::limits;
+use parsing::lists::Passed;
 use finding::branches::sequence_of;
 use finding::places::Found;
 use meaning::{Form, Layout};

@@ -18,7 +18,7 @@ use Rattle.meaning.specs.Reading.{got, count_at, below_at, bound_of, literals, e
 use Rattle.meaning.proofs.TestLaws.{by-test, pick-cases, some_has}
 use Rattle.meaning.proofs.SettledLaws.{got_same, fault≢got}
 use Rattle.meaning.proofs.RangeLaws.{not_refused, after_got, list_consistent}
-use Rattle.bytes.specs.Masks.{Counted}
+use Rattle.parsing.specs.Masks.{Counted}
 use Rattle.reading.specs.Listed.{bytes_from, twos_from, listed, ListHere, listed_as, LiteralsHere}
 use Rattle.finding.specs.LinesHere.{literal_from, body_place, LiteralHere, Consistent, effect_from, EffectHere}
 use Rattle.reading.proofs.SectionLaws.{got_place, number_got, count_got}

@@ -12,7 +12,7 @@ use Rattle.meaning.specs.Tests.{Has}
 use Rattle.meaning.specs.Limits.{format}
 use Rattle.meaning.specs.Requests.{Sequence}
 use Rattle.meaning.proofs.TestLaws.{by-test, pick_true, pick_false}
-use Rattle.bytes.specs.Bits.{with_bit}
+use Rattle.parsing.specs.Bits.{with_bit}
 use Rattle.meaning.specs.declared.Form.{Form}
 use Rattle.reading.specs.Noted.{Section, effects, executability, knowledge, Line, effect_lines, run_lines, before, appended, raised, word_bits, pair_slot, bit_noted, pair_noted, action_in, note_line, none_yet, lines_noted, count_slot, section_noted, sensed_from, sensed_to, sensed, line_numbers, line_slots}
 use Rattle.reading.proofs.NotesLaws.{before_most}

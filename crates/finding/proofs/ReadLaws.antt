@@ -21,7 +21,7 @@ use Rattle.reading.specs.Noted.{effects, executability, knowledge, effect_lines,
 use Rattle.reading.specs.Ordered.{InOrder}
 use Rattle.reading.specs.Listed.{listed_as, LiteralsHere, span}
 use Rattle.reading.specs.Planned.{items_of, bytes_of, plan_noted}
-use Rattle.bytes.specs.Masks.{Counted}
+use Rattle.parsing.specs.Masks.{Counted}
 use Rattle.reading.specs.Requested.{Starts, goals_place, plan_place, places_noted, tail_with, request_with, guards_place, guarded_noted}
 use Rattle.finding.specs.LinesHere.{Consistent, effect_from, EffectHere, place_in, effects_in, EffectsHere, knowledge_from, knowledge_in, KnowledgeHere, Acting}
 use Rattle.reading.proofs.SectionLaws.{got_place, byte_got, number_got}

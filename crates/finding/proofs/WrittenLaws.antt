@@ -15,10 +15,10 @@ use Rattle.reading.specs.Listed.{span}
 use Rattle.reading.specs.Planned.{items_of, bytes_of, plan_noted, noting_met, outcome_met}
 use Rattle.finding.specs.Branches.{sequence_place, no_item}
 use Rattle.finding.specs.PlansHeld.{own_items, branches_in, BranchWritten, Written, ItemWritten, BranchesWritten, PlanHeld, SomePlan}
-use Rattle.bytes.specs.declared.bytes.Read.{Read}
-use Rattle.bytes.specs.declared.bytes.Read.TheVariants.{Value}
+use Rattle.parsing.specs.declared.bytes.Read.{Read}
+use Rattle.parsing.specs.declared.bytes.Read.TheVariants.{Value}
 use Rattle.reading.proofs.SectionLaws.{byte_got, count_got}
-use Rattle.bytes.specs.Masks.{Counted}
+use Rattle.parsing.specs.Masks.{Counted}
 use Rattle.finding.proofs.HereLaws.{literals_read, literals_length}
 use Rattle.reading.proofs.PlanSizes.{body_through, sequence_read}
 use Rattle.reading.proofs.NotingLaws.{with_items, met_value}

@@ -1,5 +1,5 @@
 // The place of the first thing sought, or none.
-#[derive(Drop)]
+#[derive(Clone, Copy)]
 pub enum Found {
     Nowhere,
     At(usize),

@@ -20,10 +20,10 @@ use Rattle.meaning.specs.Reading.{got}
 use Rattle.meaning.specs.Refusals.{settled}
 use Rattle.meaning.specs.Derivations.{check_derivation, answer, accepted_if, beyond, check_settled, check}
 use Rattle.meaning.proofs.TestLaws.{pick_true, pick_false}
-use Rattle.bytes.specs.declared.lists.Passed.{Passed}
-use Rattle.bytes.specs.declared.lists.Passed.TheVariants.{To, Fault as Stop}
-use Rattle.bytes.specs.Read.{passed}
-use Rattle.bytes.proofs.ListLaws.{passed_to, passed_stop}
+use Rattle.parsing.specs.declared.lists.Passed.{Passed}
+use Rattle.parsing.specs.declared.lists.Passed.TheVariants.{To, Fault as Stop}
+use Rattle.parsing.specs.Read.{passed}
+use Rattle.parsing.proofs.ListLaws.{passed_to, passed_stop}
 use Rattle.meaning.specs.declared.Form.TheVariants.{Flags}
 use Rattle.reading.specs.Noted.{noting, outcome, goals_slot}
 use Rattle.reading.specs.Listed.{listed}

@@ -26,8 +26,8 @@ use Rattle.meaning.proofs.TestLaws.{by-test, pick_true, pick_false}
 use Rattle.meaning.proofs.VerifiedLaws.{within_unread}
 use Rattle.meaning.proofs.WithinLaws.{fine_within}
 use Rattle.meaning.proofs.NarrowWalks.{narrow_never}
-use Rattle.bytes.specs.declared.lists.Passed.{Passed}
-use Rattle.bytes.specs.declared.lists.Passed.TheVariants.{To, Fault as Stop}
+use Rattle.parsing.specs.declared.lists.Passed.{Passed}
+use Rattle.parsing.specs.declared.lists.Passed.TheVariants.{To, Fault as Stop}
 use Rattle.meaning.specs.declared.Form.TheVariants.{Flags}
 use Rattle.reading.specs.Noted.{goals_slot, mode_slot, slots, noting, outcome}
 use Rattle.reading.specs.Requested.{request_noted}

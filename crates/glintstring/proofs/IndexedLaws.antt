@@ -25,8 +25,8 @@ use Rattle.meaning.specs.Tests.{pick}
 use Rattle.meaning.proofs.TestLaws.{pick_false}
 use Rattle.meaning.proofs.DifferenceLaws.{same_difference}
 use Rattle.meaning.proofs.IndexAnswers.{right_index, refused_alike, nine_alike, other_judges, other_tells}
-use Rattle.bytes.specs.declared.lists.Passed.{Passed}
-use Rattle.bytes.specs.declared.lists.Passed.TheVariants.{To, Fault as Stop}
+use Rattle.parsing.specs.declared.lists.Passed.{Passed}
+use Rattle.parsing.specs.declared.lists.Passed.TheVariants.{To, Fault as Stop}
 use Rattle.meaning.specs.declared.Form.TheVariants.{Flags}
 use Rattle.reading.specs.Noted.{noting, outcome}
 use Rattle.reading.specs.Requested.{request_noted}

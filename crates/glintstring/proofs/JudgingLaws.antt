@@ -28,8 +28,8 @@ use Rattle.meaning.specs.Asking.{line_told, line_got, line}
 use Rattle.meaning.proofs.TestLaws.{pick_true, pick_false}
 use Rattle.meaning.proofs.KeptEnds.{walked_unguarded}
 use Rattle.meaning.proofs.ReportedLine.{line_not}
-use Rattle.bytes.specs.declared.lists.Passed.{Passed}
-use Rattle.bytes.specs.declared.lists.Passed.TheVariants.{To, Fault as Stop}
+use Rattle.parsing.specs.declared.lists.Passed.{Passed}
+use Rattle.parsing.specs.declared.lists.Passed.TheVariants.{To, Fault as Stop}
 use Rattle.meaning.specs.declared.Form.TheVariants.{Flags, Valued}
 use Rattle.reading.specs.Noted.{mode_slot, noting, outcome}
 use Rattle.reading.specs.Requested.{request_noted, guarded_noted}

@@ -18,8 +18,8 @@ use Rattle.meaning.specs.ByCases.{walked_by_cases}
 use Rattle.meaning.specs.Guards.{GuardedRequest, settled_guarded}
 use Rattle.meaning.proofs.SettledLaws.{got_same, refuse_got, next_got, Settled, settled_is}
 use Rattle.meaning.proofs.GuardedReads.{guarded_past}
-use Rattle.bytes.specs.declared.lists.Passed.{Passed}
-use Rattle.bytes.specs.declared.lists.Passed.TheVariants.{To}
+use Rattle.parsing.specs.declared.lists.Passed.{Passed}
+use Rattle.parsing.specs.declared.lists.Passed.TheVariants.{To}
 use Rattle.meaning.specs.declared.Form.TheVariants.{Flags, Valued}
 use Rattle.reading.specs.Noted.{mode_slot, slots, noting, outcome}
 use Rattle.reading.specs.Requested.{request_noted, guarded_noted}

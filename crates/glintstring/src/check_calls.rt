@@ -7,8 +7,8 @@ ghost use Rattle.steps.specs.AtHand.{AtHand};
 ghost use Rattle.glintstring.specs.CheckCalls.{too_many, check_at_hand};
 ghost use Rattle.meaning.specs.declared.Form.TheVariants.{Flags};
 
-use bytes::bytes::wide;
-use bytes::lists::Passed;
+use parsing::bytes::wide;
+use parsing::lists::Passed;
 use checking::check::check_derivation;
 use finding::branches::sequence_of;
 use meaning::{Answer, Form, Layout};

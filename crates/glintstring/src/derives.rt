@@ -12,9 +12,9 @@ ghost use Rattle.steps.specs.AtHand.{AtHand};
 ghost use Rattle.steps.specs.Steps.{mode_in};
 ghost use Rattle.meaning.specs.declared.Form.TheVariants.{Flags};
 
-use bytes::bytes::wide;
-use bytes::limits;
-use bytes::lists::Passed;
+use parsing::bytes::wide;
+use parsing::limits;
+use parsing::lists::Passed;
 use finding::branches::sequence_of;
 use meaning::{Answer, Form};
 use reading::notes;

@@ -7,7 +7,7 @@ ghost use Rattle.finding.specs.TablesHere.{TableHere};
 ghost use Rattle.steps.specs.Held.{request_in};
 ghost use Rattle.meaning.specs.declared.Form.TheVariants.{Flags};
 
-use bytes::lists::Passed;
+use parsing::lists::Passed;
 use indexing::building::{index_length, put_index};
 use meaning::Answer;
 use reading::notes;

@@ -12,8 +12,8 @@ ghost use Rattle.steps.specs.Steps.{form_in, walk_held};
 ghost use Rattle.meaning.specs.declared.Form.TheVariants.{Flags};
 
 use super::missing::line_at;
-use bytes::limits;
-use bytes::lists::Passed;
+use parsing::limits;
+use parsing::lists::Passed;
 use finding::places::Found;
 use indexing::differing::differs;
 use indexing::taking::take_index;
@@ -55,7 +55,7 @@ fn walk_with_line(request: &[u8], t: &Notes, state: &mut [u8], budget: u32) -> J
 }
 
 // What the walk call gives: the answer, and the line that it carries (FORMAT 18.9), 0 for none.
-#[derive(Drop)]
+#[derive(Clone, Copy)]
 pub struct Judged {
     pub answer: Answer,
     pub line: u32,

@@ -6,8 +6,8 @@ ghost use Rattle.steps.specs.AtHand.{AtHand};
 ghost use Rattle.glintstring.specs.Missing.{ItemByte};
 ghost use Rattle.meaning.specs.declared.Form.TheVariants.{Flags};
 
-use bytes::bytes::wide;
-use bytes::limits;
+use parsing::bytes::wide;
+use parsing::limits;
 use meaning::Runs;
 use reading::marks::Marks;
 use reading::notes::Notes;

@@ -6,7 +6,7 @@ use meaning::Answer;
 
 // What a call of a guide answers: an action that is to be done, by its number; or that the plan has ended; or a refusal. `Guides.number_told` and
 // `Guides.values_told` say what each case stands for.
-#[derive(Drop)]
+#[derive(Clone, Copy)]
 pub enum Told {
     Do(usize),
     Done,

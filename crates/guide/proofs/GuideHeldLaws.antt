@@ -17,8 +17,8 @@ use Rattle.meaning.specs.Refusals.{settled}
 use Rattle.meaning.specs.States.{State, state_of, first_state}
 use Rattle.meaning.proofs.TestLaws.{both_left, both_right, both_true, pick_true, pick_false}
 use Rattle.meaning.proofs.SettledLaws.{fault≢got, got_same}
-use Rattle.bytes.specs.declared.lists.Passed.{Passed}
-use Rattle.bytes.specs.declared.lists.Passed.TheVariants.{To, Fault as Stop}
+use Rattle.parsing.specs.declared.lists.Passed.{Passed}
+use Rattle.parsing.specs.declared.lists.Passed.TheVariants.{To, Fault as Stop}
 use Rattle.reading.specs.Listed.{listed, ListHere}
 use Rattle.meaning.specs.declared.Form.TheVariants.{Flags}
 use Rattle.reading.specs.Noted.{items_slot, noting, outcome}

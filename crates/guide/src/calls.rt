@@ -10,8 +10,8 @@ ghost use Rattle.meaning.specs.declared.Form.TheVariants.{Flags};
 
 use super::going::{NOT_VERIFIED, Step, answer_call, refused, refused_step};
 use super::sensed::{Fluents, sensed_by};
-use bytes::limits;
-use bytes::lists::Passed;
+use parsing::limits;
+use parsing::lists::Passed;
 use reading::marks::{Marks, state_of};
 use reading::notes;
 use reading::notes::{Notes, get};
@@ -80,7 +80,7 @@ pub(crate) fn call(request: &[u8], action: usize, at: usize, marks: &Marks, read
 }
 
 // Where the plan starts, and the first state.
-#[derive(Drop)]
+#[derive(Clone, Copy)]
 pub(crate) struct First {
     pub at: usize,
     pub marks: Marks,

@@ -10,8 +10,8 @@ ghost use Rattle.guide.specs.GuideHeld.{came, ItemThere, ActionThere, meets, tak
 ghost use Rattle.meaning.specs.declared.Form.TheVariants.{Flags};
 
 use super::sensed::{is_against, sensed_by, taken_over};
-use bytes::bytes::wide;
-use bytes::limits;
+use parsing::bytes::wide;
+use parsing::limits;
 use finding::places::Found;
 use guidance::Told;
 use meaning::{Answer, Form};
@@ -35,7 +35,7 @@ pub const AGAINST_KNOWN: u8 = 42;
 pub const NO_ACTION: usize = limits::ACTIONS;
 
 // What comes next: the plan's end; an action, by the number of its item; or a branching that has no condition known true.
-#[derive(Drop)]
+#[derive(Clone, Copy)]
 pub(crate) enum Ahead {
     End,
     Action(usize),
@@ -71,7 +71,7 @@ pub(crate) fn look_ahead(s: &[u8], t: &Notes, at: usize, marks: &Marks) -> Ahead
 }
 
 // What a call makes of a guide that is on its way: its answer, and where it goes on. Where it refuses, the guide stays as it was, and only the answer counts.
-#[derive(Drop)]
+#[derive(Clone, Copy)]
 pub(crate) struct Step {
     pub told: Told,
     pub action: usize,

@@ -8,7 +8,7 @@ ghost use Rattle.guide.specs.GuideHeld.{fluents_of, guide_held, turned, row_end,
 use super::calls::{asked, at_start, call, none_asked};
 use super::going::{NO_ACTION, NOT_VERIFIED, Step};
 use super::sensed::Fluents;
-use bytes::limits;
+use parsing::limits;
 use glintstring::judging::judge;
 use guidance::Told;
 use meaning::Answer;
@@ -17,7 +17,7 @@ use verdicts::answers;
 use verdicts::answers::uncounted;
 
 // A guide was refused, or is on its way, or has come to the plan's end.
-#[derive(Drop)]
+#[derive(Clone, Copy)]
 pub enum Stage {
     Refusing,
     Going,

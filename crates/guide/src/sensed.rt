@@ -7,13 +7,13 @@ ghost use Rattle.guidance.specs.Guides.{sensed, literal_read, literals_read, aga
 ghost use Rattle.guide.specs.GuideHeld.{fluents_of};
 ghost use Rattle.meaning.specs.declared.Form.TheVariants.{Flags};
 
-use bytes::limits;
+use parsing::limits;
 use reading::marks::Marks;
 use reading::notes::Notes;
 use steps::sensing::looks_at;
 
 // The fluents whose readings a call brings: so many, from the start of the row on, ascending, and 0 behind them.
-#[derive(Drop)]
+#[derive(Clone, Copy)]
 pub struct Fluents {
     pub count: usize,
     pub row: [u8; limits::FLUENTS],

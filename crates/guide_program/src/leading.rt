@@ -10,7 +10,7 @@ use libc::STDOUT_FILENO;
 use programs::{put, put_number};
 
 // How a run ends: the plan is done; the start was refused, or there is no line of readings any more; or something failed, which is said.
-#[derive(Drop)]
+#[derive(Clone, Copy)]
 pub enum Ending {
     Done,
     Early,

@@ -13,7 +13,7 @@ pub const MOST: u64 = 18446744073709551615;
 
 // What was read: so many readings; or a line with anything else, or of more bytes; or that there is no line any more, or none that can be read; or
 // that what is to be said of it can't be.
-#[derive(Drop)]
+#[derive(Clone, Copy)]
 pub enum Line {
     Readings(usize),
     Other,
@@ -24,7 +24,7 @@ pub enum Line {
 }
 
 // One byte, and nothing of what is behind it.
-#[derive(Drop)]
+#[derive(Clone, Copy)]
 enum Next {
     Byte(u8),
     End,

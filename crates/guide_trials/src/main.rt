@@ -29,7 +29,7 @@ fn is_read(buf: &mut [u8]) -> bool {
 }
 
 // A number, or that standard input has ended.
-#[derive(Drop)]
+#[derive(Clone, Copy)]
 enum Number {
     Of(u32),
     Missing,

@@ -2,7 +2,7 @@
 
 #![tactic(auto)]
 
-use bytes::limits;
+use parsing::limits;
 use glintstring::indexes::index;
 use libc::{STDERR_FILENO, STDIN_FILENO};
 use programs::{Input, REQUEST_ROOM, option_asked, put_written, read_all};

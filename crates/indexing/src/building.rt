@@ -8,7 +8,7 @@ ghost use Rattle.finding.specs.TablesHere.{table_in, TableHere};
 ghost use Rattle.indexing.specs.IndexNotes.{places_noted, LinesNoted};
 ghost use Rattle.meaning.specs.declared.Form.TheVariants.{Flags};
 
-use bytes::bytes::wide;
+use parsing::bytes::wide;
 use reading::notes;
 use reading::notes::{Notes, first_line, get, line_place, next_line};
 

@@ -7,7 +7,7 @@ ghost use Rattle.finding.specs.TablesHere.{table_in, TableHere};
 ghost use Rattle.meaning.specs.declared.Form.TheVariants.{Flags};
 
 use super::building::{index_length, put_index};
-use bytes::limits;
+use parsing::limits;
 use finding::places::Found;
 use reading::notes::Notes;
 

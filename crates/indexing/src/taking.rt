@@ -7,8 +7,8 @@ ghost use Rattle.finding.specs.TablesHere.{table_in, TableHere};
 ghost use Rattle.indexing.specs.IndexNotes.{lines_taken, index_taken};
 ghost use Rattle.meaning.specs.declared.Form.TheVariants.{Flags};
 
-use bytes::bytes::{two, wide};
-use bytes::limits;
+use parsing::bytes::{two, wide};
+use parsing::limits;
 use reading::notes;
 use reading::notes::{Notes, put};
 

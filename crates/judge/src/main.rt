@@ -4,7 +4,7 @@
 
 ghost use Rattle.programs.specs.Input.{Within};
 
-use bytes::limits;
+use parsing::limits;
 use glintstring::judging::{
     Judged, judge, judge_by_cases, judge_guarded, judge_indexed, judge_values,
 };
@@ -16,7 +16,7 @@ use programs::{
 use verdicts::answers;
 
 // The call that is made.
-#[derive(Drop)]
+#[derive(Clone, Copy)]
 enum Call {
     Walk,
     Guarded,

@@ -9,7 +9,7 @@ ghost use Rattle.std.specs.Prelude.{◌≤◌, leb, length, ◌≡◌};
 ghost use Rattle.programs.specs.Input.{Within};
 ghost use Rattle.programs.specs.Stack.{needed};
 
-use bytes::limits;
+use parsing::limits;
 use comparing::parts::same_part;
 use libc::types::rlimit;
 use libc::{RLIMIT_STACK, STDERR_FILENO, STDOUT_FILENO};
@@ -38,7 +38,7 @@ pub const ANSWER_FILENO: i32 = 3;
 const SIGNS: usize = limits::FLUENTS + 1;
 
 // How many bytes were read, or that they can't be.
-#[derive(Drop)]
+#[derive(Clone, Copy)]
 pub enum Input {
     Bytes(usize),
     Unreadable,
@@ -122,7 +122,7 @@ pub fn option_asked(from_end: usize, option: &[u8]) -> bool {
 }
 
 // The number that an argument writes, or that it writes none.
-#[derive(Drop)]
+#[derive(Clone, Copy)]
 pub enum Asked {
     Number(u32),
     Nothing,

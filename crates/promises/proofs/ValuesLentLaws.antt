@@ -33,7 +33,7 @@ use Rattle.meaning.proofs.ValueLaws.{numbers_has, numbered_length, numbered_at, 
 use Rattle.meaning.proofs.KeptEnds.{on_places, OutcomeHas, StepSo, walk_so, end_of_so}
 use Rattle.demands.proofs.Demands.{values_state}
 use Rattle.demands.proofs.ValuesSound.{values_settled_is}
-use Rattle.bytes.specs.Masks.{FewValues}
+use Rattle.parsing.specs.Masks.{FewValues}
 use Rattle.reading.specs.Tables.{table_of, table_in}
 use Rattle.reading.proofs.SectionLaws.{count_got}
 use Rattle.reading.proofs.ValueSizes.{few_counted}

@@ -18,12 +18,12 @@ use Rattle.meaning.specs.declared.Form.TheVariants.{Flags, Valued}
 use Rattle.meaning.specs.Reading.{Got, got, fault, next, literals, fluents, count_at, list_at, literals_at, value_counts_at, past_values, section_at, effect_at, executability_at, knowledge_at, plan_at, placed, table_at, request_at, read_request}
 use Rattle.meaning.specs.Guards.{GuardedRequest, read_guarded}
 use Rattle.meaning.proofs.RangeLaws.{not_refused, after_got, count_within}
-use Rattle.bytes.specs.declared.lists.Kind.TheVariants.{Literals}
-use Rattle.bytes.specs.declared.lists.Passed.{Passed}
-use Rattle.bytes.specs.declared.lists.Passed.TheVariants.{To, Fault as Stop}
-use Rattle.bytes.specs.Masks.{Counted}
-use Rattle.bytes.specs.Read.{passed, kind_of}
-use Rattle.bytes.proofs.ListLaws.{passed_to, passed_stop}
+use Rattle.parsing.specs.declared.lists.Kind.TheVariants.{Literals}
+use Rattle.parsing.specs.declared.lists.Passed.{Passed}
+use Rattle.parsing.specs.declared.lists.Passed.TheVariants.{To, Fault as Stop}
+use Rattle.parsing.specs.Masks.{Counted}
+use Rattle.parsing.specs.Read.{passed, kind_of}
+use Rattle.parsing.proofs.ListLaws.{passed_to, passed_stop}
 use Rattle.reading.specs.Noted.{plan_slot, items_slot, goals_slot, guards_slot, table_noted, noting, outcome}
 use Rattle.reading.specs.Requested.{Starts, plan_first, places_noted, tail_with, request_with, request_noted, guards_place, guarded_noted}
 use Rattle.reading.proofs.SectionLaws.{count_got, noting_got, noting_fault}

@@ -10,15 +10,15 @@ use Rattle.meaning.specs.Requests.{Sequence, branching, Branches, branch}
 use Rattle.meaning.specs.declared.Form.{Form}
 use Rattle.meaning.specs.Reading.{Got, got, fault, next, Met, Part, count_at, body_at, sequence_at, branches_at, branching_at}
 use Rattle.meaning.proofs.SettledLaws.{next_got}
-use Rattle.bytes.specs.declared.bytes.Read.{Read}
-use Rattle.bytes.specs.declared.bytes.Read.TheVariants.{Value, Fault}
-use Rattle.bytes.specs.declared.lists.Passed.{Passed}
-use Rattle.bytes.specs.declared.lists.Passed.TheVariants.{To, Fault as Stop}
-use Rattle.bytes.specs.Read.{number_read, passed}
+use Rattle.parsing.specs.declared.bytes.Read.{Read}
+use Rattle.parsing.specs.declared.bytes.Read.TheVariants.{Value, Fault}
+use Rattle.parsing.specs.declared.lists.Passed.{Passed}
+use Rattle.parsing.specs.declared.lists.Passed.TheVariants.{To, Fault as Stop}
+use Rattle.parsing.specs.Read.{number_read, passed}
 use Rattle.reading.specs.Listed.{span}
 use Rattle.reading.specs.Planned.{items_of, bytes_of, inside_noted, branches_noted, sequence_noted, noting_met, outcome_met, branch_noting}
-use Rattle.bytes.proofs.ByteLaws.{read_value, read_fault}
-use Rattle.bytes.proofs.ListLaws.{passed_to, passed_stop}
+use Rattle.parsing.proofs.ByteLaws.{read_value, read_fault}
+use Rattle.parsing.proofs.ListLaws.{passed_to, passed_stop}
 use Rattle.reading.proofs.PlanSizes.{count_through, body_through, sequence_read}
 use Rattle.reading.proofs.NotingLaws.{Going, fault_met, met_value, noting_built, with_items}
 use Rattle.reading.proofs.SectionLaws.{fault_turned}

@@ -12,12 +12,12 @@ use Rattle.meaning.specs.Requests.{Item, act}
 use Rattle.meaning.specs.declared.Form.{Form}
 use Rattle.meaning.specs.Reading.{Got, got, fault, next, Met, byte_at, item_at, branching_at}
 use Rattle.meaning.proofs.TestLaws.{pick_true, pick_false}
-use Rattle.bytes.specs.declared.bytes.Read.{Read}
-use Rattle.bytes.specs.declared.bytes.Read.TheVariants.{Value, Fault}
-use Rattle.bytes.specs.Read.{number_read}
+use Rattle.parsing.specs.declared.bytes.Read.{Read}
+use Rattle.parsing.specs.declared.bytes.Read.TheVariants.{Value, Fault}
+use Rattle.parsing.specs.Read.{number_read}
 use Rattle.reading.specs.Noted.{item_place}
 use Rattle.reading.specs.Planned.{place_of, inside_noted, item_noted, noting_met, outcome_met}
-use Rattle.bytes.proofs.ByteLaws.{read_value, read_fault}
+use Rattle.parsing.proofs.ByteLaws.{read_value, read_fault}
 use Rattle.reading.proofs.PlanSizes.{byte_through, item_read}
 use Rattle.reading.proofs.NotingLaws.{noting_same, with_items}
 

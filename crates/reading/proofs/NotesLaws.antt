@@ -11,7 +11,7 @@ use mir.Val.{Fits}
 use borrow.Author.Tests.{lt-ltb, le-ltb, eq-eqb, ne_eqb}
 use Rattle.meaning.specs.Limits.{format}
 use Rattle.meaning.proofs.TestLaws.{by-test, pick_true, pick_false}
-use Rattle.bytes.specs.Bits.{bit_of, with_bit}
+use Rattle.parsing.specs.Bits.{bit_of, with_bit}
 use Rattle.reading.specs.Noted.{line_place, next_line, first_line, before, appended, raised, word_bits, pair_slot, pair_there, bit_noted, pair_noted, sensed_from, sensed_to, run_lines, slots, line_numbers}
 
 -- A LINE.

@@ -10,8 +10,8 @@ use Rattle.meaning.specs.Limits.{format}
 use Rattle.meaning.specs.Reading.{Got, got, fault, next, Met}
 use Rattle.meaning.proofs.TestLaws.{by-test, pick_true, pick_false}
 use Rattle.meaning.proofs.SettledLaws.{fault≢got, got_same}
-use Rattle.bytes.specs.declared.bytes.Read.{Read}
-use Rattle.bytes.specs.declared.bytes.Read.TheVariants.{Value, Fault}
+use Rattle.parsing.specs.declared.bytes.Read.{Read}
+use Rattle.parsing.specs.declared.bytes.Read.TheVariants.{Value, Fault}
 use Rattle.reading.proofs.SectionLaws.{got_place, fault_first}
 use Rattle.reading.specs.Planned.{number_after, branch_noted, noting_met, outcome_met}
 use Rattle.reading.specs.Noted.{item_next, branch_place, branch_item}

@@ -11,20 +11,20 @@ use Rattle.meaning.specs.declared.Form.TheVariants.{Flags, Valued}
 use Rattle.meaning.specs.Reading.{Got, got, fault, next, fluents, plan_at, count_at, list_at, literals_at, section_at, effect_at, executability_at, knowledge_at, table_at, value_counts_at, past_values, request_at, placed, placed_twos, placed_as, Met}
 use Rattle.meaning.proofs.SettledLaws.{next_got}
 use Rattle.meaning.proofs.RangeLaws.{count_within}
-use Rattle.bytes.specs.declared.bytes.Read.{Read}
-use Rattle.bytes.specs.declared.bytes.Read.TheVariants.{Value, Fault}
-use Rattle.bytes.specs.declared.lists.Kind.TheVariants.{Fluents}
-use Rattle.bytes.specs.declared.lists.Passed.{Passed}
-use Rattle.bytes.specs.declared.lists.Passed.TheVariants.{To, Fault as Stop}
-use Rattle.bytes.specs.Masks.{Counted as Within-counts}
-use Rattle.bytes.specs.Read.{number_read, passed, kind_of}
+use Rattle.parsing.specs.declared.bytes.Read.{Read}
+use Rattle.parsing.specs.declared.bytes.Read.TheVariants.{Value, Fault}
+use Rattle.parsing.specs.declared.lists.Kind.TheVariants.{Fluents}
+use Rattle.parsing.specs.declared.lists.Passed.{Passed}
+use Rattle.parsing.specs.declared.lists.Passed.TheVariants.{To, Fault as Stop}
+use Rattle.parsing.specs.Masks.{Counted as Within-counts}
+use Rattle.parsing.specs.Read.{number_read, passed, kind_of}
 use Rattle.reading.specs.Listed.{span}
 use Rattle.reading.specs.Noted.{effects, executability, knowledge, line_at, table_noted, three_sections, facts_first, actions_first, noting, outcome}
 use Rattle.reading.specs.Noted.{plan_slot, items_slot, goals_slot, guards_slot}
 use Rattle.reading.specs.Planned.{items_of, bytes_of, plan_noted, noting_met, outcome_met}
 use Rattle.reading.specs.Requested.{Starts, values_first, goals_first, plan_first, places_noted, goals_place, plan_place, tail_with, request_with, tail_noted, request_noted}
-use Rattle.bytes.proofs.ByteLaws.{read_value, read_fault}
-use Rattle.bytes.proofs.ListLaws.{passed_same, passed_to, passed_stop}
+use Rattle.parsing.proofs.ByteLaws.{read_value, read_fault}
+use Rattle.parsing.proofs.ListLaws.{passed_same, passed_to, passed_stop}
 use Rattle.reading.proofs.NotingLaws.{with_items, met_value, met_fault, fault_met}
 use Rattle.reading.proofs.SectionLaws.{count_got}
 use Rattle.reading.proofs.ValueSizes.{few_counted, few_read}

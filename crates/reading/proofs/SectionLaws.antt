@@ -16,14 +16,14 @@ use Rattle.meaning.specs.Reading.{Got, got, fault, next, byte_at, count_at, belo
 use Rattle.meaning.proofs.SettledLaws.{got_same, next_got, fault≢got}
 use Rattle.meaning.proofs.RangeLaws.{not_refused, after_got, repeated_length}
 pub use Rattle.meaning.proofs.RangeLaws.{got_place, byte_got}
-use Rattle.bytes.specs.declared.bytes.Read.{Read}
-use Rattle.bytes.specs.declared.bytes.Read.TheVariants.{Value, Fault}
-use Rattle.bytes.specs.declared.lists.Passed.{Passed}
-use Rattle.bytes.specs.declared.lists.Passed.TheVariants.{To, Fault as Stop}
+use Rattle.parsing.specs.declared.bytes.Read.{Read}
+use Rattle.parsing.specs.declared.bytes.Read.TheVariants.{Value, Fault}
+use Rattle.parsing.specs.declared.lists.Passed.{Passed}
+use Rattle.parsing.specs.declared.lists.Passed.TheVariants.{To, Fault as Stop}
 use Rattle.reading.specs.declared.sections.Section as Code
 use Rattle.reading.specs.declared.sections.Section.TheVariants.{Effects, Executability as Runs, Knowledge as Senses}
-use Rattle.bytes.specs.Read.{effect_read, executability_read, knowledge_read}
-use Rattle.bytes.proofs.ByteLaws.{byte_none, byte_is}
+use Rattle.parsing.specs.Read.{effect_read, executability_read, knowledge_read}
+use Rattle.parsing.proofs.ByteLaws.{byte_none, byte_is}
 use Rattle.reading.specs.Noted.{Section, effects, executability, knowledge, section_of, Line, line_at, line_read, line_noted, action_in, note_line, none_yet, lines_noted, count_slot, section_noted, three_sections, noting, outcome, effect_lines, run_lines, appended, pair_noted, slots, effects_slot, executability_slot, knowledge_slot}
 
 -- ONE OF THE THREE SECTIONS.

@@ -11,12 +11,12 @@ use Rattle.meaning.specs.declared.Form.{Form}
 use Rattle.meaning.specs.Reading.{Got, got, fault, next, Met, Part, two_bytes_at, item_at, items_at, sequence_at, branching_at, plan_at}
 use Rattle.meaning.proofs.SettledLaws.{got_same}
 use Rattle.meaning.proofs.RangeLaws.{after_got}
-use Rattle.bytes.specs.declared.bytes.Read.{Read}
-use Rattle.bytes.specs.declared.bytes.Read.TheVariants.{Value, Fault}
-use Rattle.bytes.specs.Read.{number_read}
+use Rattle.parsing.specs.declared.bytes.Read.{Read}
+use Rattle.parsing.specs.declared.bytes.Read.TheVariants.{Value, Fault}
+use Rattle.parsing.specs.Read.{number_read}
 use Rattle.reading.specs.Noted.{item_next}
 use Rattle.reading.specs.Planned.{items_in, bytes_in, following, number_after, branch_noted, rest_noted, item_noted, sequence_noted, plan_noted, noting_met, outcome_met}
-use Rattle.bytes.proofs.ByteLaws.{read_value, read_fault}
+use Rattle.parsing.proofs.ByteLaws.{read_value, read_fault}
 use Rattle.reading.proofs.PlanSizes.{ItemRead, two_bytes_through, item_read}
 use Rattle.reading.proofs.NotingLaws.{Going, after_last, after_other, fault_met, met_fault, met_value, noting_built, noting_same, with_items}
 

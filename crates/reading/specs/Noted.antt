@@ -5,13 +5,13 @@ use Rattle.meaning.specs.Limits.{format}
 use Rattle.meaning.specs.Requests.{Effect, Executability, Knowledge, Table}
 use Rattle.meaning.specs.declared.Form.{Form}
 use Rattle.meaning.specs.Reading.{Got, got, fault, next, count_at, literals_at, effect_at, executability_at, knowledge_at, section_at}
-use Rattle.bytes.specs.declared.bytes.Read.{Read}
-use Rattle.bytes.specs.Read.{effect_read, executability_read, knowledge_read}
-use Rattle.bytes.specs.Bits.{bit_of, with_bit}
+use Rattle.parsing.specs.declared.bytes.Read.{Read}
+use Rattle.parsing.specs.Read.{effect_read, executability_read, knowledge_read}
+use Rattle.parsing.specs.Bits.{bit_of, with_bit}
 use Rattle.reading.specs.declared.sections.Section as Code
 use Rattle.reading.specs.declared.sections.Section.TheVariants.{Effects, Executability as Runs, Knowledge as Senses}
-use Rattle.bytes.specs.declared.lists.Passed.{Passed}
-use Rattle.bytes.specs.declared.lists.Passed.TheVariants.{To, Fault as Stop}
+use Rattle.parsing.specs.declared.lists.Passed.{Passed}
+use Rattle.parsing.specs.declared.lists.Passed.TheVariants.{To, Fault as Stop}
 
 -- THE SLOTS.
 -- Item i: the place of its first byte.

@@ -7,8 +7,8 @@ use Rattle.meaning.specs.declared.Form.{Form}
 use Rattle.meaning.specs.Reading.{Got, got, fault, next, Met, body_at, sequence_at, branching_at}
 use Rattle.reading.specs.Listed.{span}
 use Rattle.reading.specs.Noted.{item_place, item_next, branch_place, branch_item, around_from}
-use Rattle.bytes.specs.declared.bytes.Read.{Read}
-use Rattle.bytes.specs.declared.bytes.Read.TheVariants.{Value, Fault}
+use Rattle.parsing.specs.declared.bytes.Read.{Read}
+use Rattle.parsing.specs.declared.bytes.Read.TheVariants.{Value, Fault}
 
 -- How many items a part has (FORMAT 2.30).
 unfoldable mutual

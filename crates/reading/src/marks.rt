@@ -5,21 +5,21 @@ ghost use Rattle.meaning.specs.States.{mark_of, known, state_of};
 ghost use Rattle.meaning.specs.Asking.{short_by};
 ghost use Rattle.reading.specs.Listed.{listed, ListHere, holds_as, look_at};
 
-use bytes::bytes::wide;
-use bytes::limits;
+use parsing::bytes::wide;
+use parsing::limits;
 
 // A partial state: a mark for each fluent.
 pub type Marks = [u8; limits::FLUENTS];
 
 // What is asked of a literal in a partial state: that it is known true, or that it is not known false.
-#[derive(Drop)]
+#[derive(Clone, Copy)]
 pub enum Test {
     Known,
     Possible,
 }
 
 // What one look at a list of literals tells.
-#[derive(Drop)]
+#[derive(Clone, Copy)]
 pub enum Look {
     Known,
     Possible,

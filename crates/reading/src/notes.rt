@@ -3,9 +3,9 @@ ghost use Rattle.meaning.specs.Limits.{format};
 ghost use Rattle.reading.specs.Noted;
 ghost use Rattle.reading.specs.Noted.{line_place, next_line, first_line, appended, raised, pair_slot, pair_there, pair_noted, run_lines, slots, line_numbers};
 
-use bytes::bits::{has_bit, with_bit};
-use bytes::bytes::wide;
-use bytes::limits;
+use parsing::bits::{has_bit, with_bit};
+use parsing::bytes::wide;
+use parsing::limits;
 
 // What reading leaves behind; specs/Noted says what its slots hold.
 pub const ITEM_PLACE: usize = 0;

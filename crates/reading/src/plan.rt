@@ -1,16 +1,16 @@
 ghost use Rattle.std.specs.Prelude.{◌≡◌, ◌+◌, ◌*◌, ◌≤◌, ◌<◌, length, set};
 ghost use Rattle.meaning.specs.Limits.{format};
 ghost use Rattle.meaning.specs.Reading.{item_at, sequence_at, branching_at, plan_at};
-ghost use Rattle.bytes.specs.Masks.{Counted};
+ghost use Rattle.parsing.specs.Masks.{Counted};
 ghost use Rattle.reading.specs.Noted.{item_next};
 ghost use Rattle.reading.specs.Planned.{number_after, branch_noted, item_noted, inside_noted, sequence_noted, plan_noted, noting_met, outcome_met, branch_noting};
 
 use super::notes;
 use super::notes::{Notes, put};
-use bytes::bytes::{Read, byte_at, count_at, two_bytes_at};
-use bytes::limits;
-use bytes::lists::Passed;
-use bytes::table_lines::body_at;
+use parsing::bytes::{Read, byte_at, count_at, two_bytes_at};
+use parsing::limits;
+use parsing::lists::Passed;
+use parsing::table_lines::body_at;
 use meaning::Form;
 
 // What follows an item: the item met next, or where it is the last of its sequence what stands around the sequence.

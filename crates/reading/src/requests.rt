@@ -1,8 +1,8 @@
 ghost use Rattle.std.specs.Prelude.{◌≡◌, ◌≤◌, ◌<◌, length};
 ghost use Rattle.meaning.specs.Limits.{format};
 ghost use Rattle.meaning.specs.Reading.{table_at};
-ghost use Rattle.bytes.specs.Masks.{Counted};
-ghost use Rattle.bytes.specs.Read.{passed};
+ghost use Rattle.parsing.specs.Masks.{Counted};
+ghost use Rattle.parsing.specs.Read.{passed};
 ghost use Rattle.reading.specs.Noted.{facts_first, actions_first, table_noted, noting, outcome};
 ghost use Rattle.reading.specs.Requested.{Starts, places_noted, values_first, goals_first, plan_first};
 
@@ -10,11 +10,11 @@ use super::notes;
 use super::notes::{Notes, put};
 use super::plan::plan_at;
 use super::sections::three_sections;
-use bytes::bytes::{Read, count_at};
-use bytes::forms::literals_at;
-use bytes::limits;
-use bytes::lists::{Kind, Passed, list_at};
-use bytes::values::value_counts_at;
+use parsing::bytes::{Read, count_at};
+use parsing::forms::literals_at;
+use parsing::limits;
+use parsing::lists::{Kind, Passed, list_at};
+use parsing::values::value_counts_at;
 use meaning::Form;
 
 // Sections 2 to 5, over n fluents and m actions.

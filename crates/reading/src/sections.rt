@@ -1,20 +1,20 @@
 ghost use Rattle.std.specs.Prelude.{◌≡◌, ◌≤◌, ◌<◌, length, set};
 ghost use Rattle.meaning.specs.Limits.{format};
 ghost use Rattle.meaning.specs.Reading.{repeated, section_at};
-ghost use Rattle.bytes.specs.Masks.{Counted};
+ghost use Rattle.parsing.specs.Masks.{Counted};
 ghost use Rattle.reading.specs.Noted;
 ghost use Rattle.reading.specs.Noted.{section_of, line_at, line_read, line_noted, none_yet, lines_noted, count_slot, section_noted, three_sections, noting, outcome, line_numbers};
 
 use super::notes;
 use super::notes::{Notes, append_line, note_pair, put};
-use bytes::bytes::{Read, wide};
-use bytes::limits;
-use bytes::lists::Passed;
-use bytes::table_lines::{effect_at, executability_at, knowledge_at};
+use parsing::bytes::{Read, wide};
+use parsing::limits;
+use parsing::lists::Passed;
+use parsing::table_lines::{effect_at, executability_at, knowledge_at};
 use meaning::Form;
 
 // Sections 3, 4 and 5.
-#[derive(Drop)]
+#[derive(Clone, Copy)]
 pub enum Section {
     Effects,
     Executability,

@@ -17,8 +17,8 @@ use Rattle.meaning.specs.Refusals.{first_against}
 use Rattle.meaning.specs.declared.Form.{Form}
 use Rattle.meaning.specs.declared.Form.TheVariants.{Flags, Valued}
 use Rattle.meaning.proofs.TestLaws.{by-test, pick_true, pick_false}
-use Rattle.bytes.specs.Masks.{FewValues, Counted}
-use Rattle.bytes.proofs.LineReaderLaws.{counted_values}
+use Rattle.parsing.specs.Masks.{FewValues, Counted}
+use Rattle.parsing.proofs.LineReaderLaws.{counted_values}
 use Rattle.reading.specs.Listed.{ListHere, ValuesHere}
 use Rattle.reading.specs.Noted.{line_numbers}
 use Rattle.finding.specs.declared.places.Found.TheVariants.{Nowhere, At}

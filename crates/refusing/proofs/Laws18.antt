@@ -21,7 +21,7 @@ use Rattle.refusing.specs.Refusal18.{rules_out, sets_rule_out, rules_out_as, all
 use Rattle.finding.proofs.ByBranch.{conditions_first, conditions_done, condition_first, branches_next}
 use Rattle.meaning.specs.declared.Form.TheVariants.{Flags, Valued}
 use Rattle.meaning.specs.declared.Form.{Form}
-use Rattle.bytes.specs.Masks.{Allows, FewValues}
+use Rattle.parsing.specs.Masks.{Allows, FewValues}
 use Rattle.valuing.specs.Valuing.{agreeing}
 use Rattle.valuing.proofs.TwosLaws.{listed_fluent}
 use Rattle.valuing.proofs.AgreeingLaws.{agreeing_beside}

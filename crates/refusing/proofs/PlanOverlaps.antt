@@ -32,9 +32,9 @@ use Rattle.valuing.proofs.AgreeingLaws.{beside_is}
 use Rattle.finding.specs.LinesHere.{Consistent}
 use Rattle.meaning.specs.Reading.{got, Met, plan_at, literals_in}
 use Rattle.meaning.proofs.SettledLaws.{got_same}
-use Rattle.bytes.proofs.LineReaderLaws.{counted_flags}
-use Rattle.bytes.specs.declared.bytes.Read.{Read}
-use Rattle.bytes.specs.declared.bytes.Read.TheVariants.{Value}
+use Rattle.parsing.proofs.LineReaderLaws.{counted_flags}
+use Rattle.parsing.specs.declared.bytes.Read.{Read}
+use Rattle.parsing.specs.declared.bytes.Read.TheVariants.{Value}
 use Rattle.reading.specs.Noted.{effect_lines}
 use Rattle.reading.proofs.NotingLaws.{with_items, met_value}
 use Rattle.finding.proofs.WrittenLaws.{plan_items, plan_held}

@@ -15,12 +15,12 @@ use Rattle.meaning.specs.Guards.{GuardedRequest, read_guarded, settled_guarded}
 use Rattle.meaning.specs.Refusals
 use Rattle.meaning.specs.Refusals.{nowhere, at, first_against, contradiction_in, mixed_in, refuse, settled}
 use Rattle.meaning.specs.Valued.{settled_values}
-use Rattle.bytes.specs.declared.lists.Passed.{Passed}
-use Rattle.bytes.specs.declared.lists.Passed.TheVariants.{To, Fault as Stop}
+use Rattle.parsing.specs.declared.lists.Passed.{Passed}
+use Rattle.parsing.specs.declared.lists.Passed.TheVariants.{To, Fault as Stop}
 use Rattle.finding.specs.declared.places.Found.{Found}
 use Rattle.finding.specs.declared.places.Found.TheVariants.{Nowhere, At}
-use Rattle.bytes.specs.Read.{passed}
-use Rattle.bytes.proofs.ListLaws.{passed_to, passed_stop}
+use Rattle.parsing.specs.Read.{passed}
+use Rattle.parsing.proofs.ListLaws.{passed_to, passed_stop}
 use Rattle.reading.specs.Noted.{noting, outcome, table_noted, plan_slot, items_slot, effects_slot, knowledge_slot}
 use Rattle.reading.specs.Planned.{items_of}
 use Rattle.reading.specs.Requested.{plan_place, tail_with, request_noted, guards_place, guarded_noted}
@@ -37,7 +37,7 @@ use Rattle.finding.proofs.ReadLaws.{TableParts, table_parts, request_parts, effe
 use Rattle.finding.specs.PlansHeld.{PlanHeld, SomePlan}
 use Rattle.refusing.specs.Refusal18.{overlap_as, OverlapFound}
 use Rattle.refusing.specs.Refusal16.{contradictory_as}
-use Rattle.bytes.specs.Masks.{Counted}
+use Rattle.parsing.specs.Masks.{Counted}
 use Rattle.finding.proofs.FoundLaws.{found_at, found_none}
 
 -- What comes behind 16 and 17 of a table.

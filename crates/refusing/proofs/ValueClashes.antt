@@ -16,7 +16,7 @@ use Rattle.meaning.specs.Reading.{literals_in, leaves_one}
 use Rattle.meaning.specs.Values.{exclusive, clashing, runs_with, contradictory}
 use Rattle.meaning.specs.declared.Form.TheVariants.{Valued}
 use Rattle.meaning.proofs.TestLaws.{both_left, both_right, those_has}
-use Rattle.bytes.specs.Masks.{Allows, FewValues}
+use Rattle.parsing.specs.Masks.{Allows, FewValues}
 use Rattle.reading.specs.Listed.{listed_as, ValuesHere}
 use Rattle.valuing.specs.Valuing
 use Rattle.valuing.proofs.TwosLaws.{listed_fluent}

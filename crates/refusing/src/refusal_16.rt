@@ -3,7 +3,7 @@ ghost use Rattle.meaning.specs.Limits.{format, all_literals};
 ghost use Rattle.meaning.specs.Refusals.{first_against};
 ghost use Rattle.meaning.specs.States.{state_of};
 ghost use Rattle.meaning.specs.declared.Form.TheVariants.{Flags, Valued};
-ghost use Rattle.bytes.specs.Masks.{Allows, FewValues, Counted};
+ghost use Rattle.parsing.specs.Masks.{Allows, FewValues, Counted};
 ghost use Rattle.reading.specs.Listed.{listed, listed_as, ListHere, ValuesHere};
 ghost use Rattle.reading.specs.Noted.{line_numbers};
 ghost use Rattle.finding.specs.Places.{found};
@@ -11,9 +11,9 @@ ghost use Rattle.finding.specs.LinesHere.{effect_from, EffectHere, place_in, eff
 ghost use Rattle.finding.specs.TablesHere.{table_in, RunsHere};
 ghost use Rattle.refusing.specs.Refusal16.{contradictory_as, among, agreeing, agreeing_sets, passing_lines, sets_apart, fluent_by, buckets, bucket_at, Linked, Sought, bucket_linked};
 
-use bytes::bytes::wide;
-use bytes::limits;
-use bytes::values::Allowed;
+use parsing::bytes::wide;
+use parsing::limits;
+use parsing::values::Allowed;
 use finding::places::Found;
 use meaning::Form;
 use reading::marks::{Marks, Test, each_holds, state_of};

@@ -2,7 +2,7 @@ ghost use Rattle.std.specs.Prelude.{◌+◌, ◌<◌};
 ghost use Rattle.finding.specs.LinesHere.{KnowledgeHere};
 ghost use Rattle.refusing.specs.Refusal17.{MixedFound};
 
-use bytes::bytes::wide;
+use parsing::bytes::wide;
 use finding::places::Found;
 use reading::notes;
 use reading::notes::{Notes, first_line};

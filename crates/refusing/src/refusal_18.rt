@@ -1,15 +1,15 @@
 ghost use Rattle.std.specs.Prelude.{◌≡◌, ◌+◌, ◌<◌};
 ghost use Rattle.meaning.specs.Tests.{each_of};
 ghost use Rattle.meaning.specs.declared.Form.TheVariants.{Flags, Valued};
-ghost use Rattle.bytes.specs.Masks.{FewValues, Counted};
+ghost use Rattle.parsing.specs.Masks.{FewValues, Counted};
 ghost use Rattle.finding.specs.PlansHeld.{SomePlan};
 ghost use Rattle.finding.specs.Places.{found};
 ghost use Rattle.finding.specs.Branches.{conditions_from, BranchesHere, ItemHere, ItemsHere};
 ghost use Rattle.refusing.specs.Refusal18.{OverlapFound, rules_out, sets_rule_out, all_apart, item_apart, first_overlap};
 
-use bytes::bytes::wide;
-use bytes::limits;
-use bytes::values::Allowed;
+use parsing::bytes::wide;
+use parsing::limits;
+use parsing::values::Allowed;
 use finding::branches::{next_item, next_place};
 use finding::places::Found;
 use meaning::Form;

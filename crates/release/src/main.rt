@@ -2,7 +2,7 @@
 
 #![tactic(auto)]
 
-use bytes::limits;
+use parsing::limits;
 use libc::{STDIN_FILENO, STDOUT_FILENO};
 use programs::{
     Asked, Input, REQUEST_ROOM, budget_asked, put, put_line, put_number, read_all, stack_is_enough,

@@ -3,7 +3,7 @@ ghost use Rattle.programs.specs.Input.{Within};
 
 use super::arguments::{Command, name_at};
 use super::printing::{put_known, put_numbers, put_part};
-use bytes::limits;
+use parsing::limits;
 use comparing::parts::same_part;
 use glintstring::check_calls::{check, check_whether};
 use glintstring::judging::judge;
@@ -14,7 +14,7 @@ use programs::{DERIVATION_ROOM, Input, REQUEST_ROOM, put, read_all, read_file, s
 use verdicts::answers;
 
 // What became of a request, or of a request with a derivation: answer 0, another answer, none, or one that can't be printed.
-#[derive(Drop)]
+#[derive(Clone, Copy)]
 pub enum Outcome {
     Passes,
     Other,

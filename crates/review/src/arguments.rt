@@ -5,14 +5,14 @@ ghost use Rattle.io.specs.Counts.{IsPrefixLen};
 use programs::{Asked, is_word, number_at};
 
 // What is to be done with the files.
-#[derive(Drop)]
+#[derive(Clone, Copy)]
 pub enum Command {
     Judge(u32),
     Check,
     CheckWhether,
 }
 
-#[derive(Drop)]
+#[derive(Clone, Copy)]
 pub enum Found {
     Command(Command),
     Nothing,

@@ -1,5 +1,5 @@
 // The lines that an answer is told by, below the one with its words (FORMAT 12.35 to 12.37).
-use bytes::limits;
+use parsing::limits;
 use glintstring::showing::show;
 use meaning::Answer;
 use programs::{put, put_number, put_state};

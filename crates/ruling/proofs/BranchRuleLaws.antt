@@ -21,9 +21,9 @@ use Rattle.meaning.proofs.TestLaws.{by-test}
 use Rattle.meaning.proofs.ToldLaws.{Clear, state_known}
 use Rattle.meaning.proofs.SettledLaws.{fault≢got, got_same}
 use Rattle.meaning.proofs.PlanReads.{Said, PassedOn, plan_on}
-use Rattle.bytes.proofs.LineReaderLaws.{counted_flags}
-use Rattle.bytes.specs.declared.bytes.Read.{Read}
-use Rattle.bytes.specs.declared.bytes.Read.TheVariants.{Value, Fault}
+use Rattle.parsing.proofs.LineReaderLaws.{counted_flags}
+use Rattle.parsing.specs.declared.bytes.Read.{Read}
+use Rattle.parsing.specs.declared.bytes.Read.TheVariants.{Value, Fault}
 use Rattle.reading.specs.declared.marks.Test.TheVariants.{Known}
 use Rattle.reading.specs.Listed.{listed, holds_as}
 use Rattle.reading.specs.Planned.{items_of, items_in, items_under, bytes_of, bytes_in, bytes_under, place_of, plan_noted, noting_met, outcome_met}

@@ -6,8 +6,8 @@ ghost use Rattle.comparing.specs.RuleAnswers.{SomePlan, SomeLine, SomeRead, Read
 ghost use Rattle.ruling.specs.Branched.{branches_end, SomeBranched, BranchTaken};
 ghost use Rattle.meaning.specs.declared.Form.TheVariants.{Flags};
 
-use bytes::bytes::{Read, wide};
-use bytes::limits;
+use parsing::bytes::{Read, wide};
+use parsing::limits;
 use comparing::parts::same_lists;
 use comparing::plans::{count_of, joined_plans};
 use comparing::spots::{Spot, same_conclusions};

@@ -9,8 +9,8 @@ ghost use Rattle.comparing.specs.RuleAnswers.{SomeLine, SomeLines, CitedBelow, R
 ghost use Rattle.ruling.specs.Readings.{states_from, StandsSome, SomeFollows, SaysReading, SomeRest, Uses};
 ghost use Rattle.meaning.specs.declared.Form.TheVariants.{Flags};
 
-use bytes::bytes::{two, wide};
-use bytes::limits;
+use parsing::bytes::{two, wide};
+use parsing::limits;
 use comparing::known::lists_known;
 use comparing::parts::same_part;
 use comparing::plans::count_of;
@@ -24,7 +24,7 @@ use steps::actions::can_be_run;
 use steps::sensing::{first_unknown, is_sensing, next_unknown};
 
 // This number of citations is used; or a cited line is not what its reading asks, or there is none left.
-#[derive(Drop)]
+#[derive(Clone, Copy)]
 pub enum Used {
     To(usize),
     Fails,

@@ -5,8 +5,8 @@ ghost use Rattle.steps.specs.AtHand.{AtHand};
 ghost use Rattle.comparing.specs.RuleAnswers.{SomeLine, Ruled, RuledBy, RuledByTwo};
 ghost use Rattle.meaning.specs.declared.Form.TheVariants.{Flags};
 
-use bytes::bytes::wide;
-use bytes::limits;
+use parsing::bytes::wide;
+use parsing::limits;
 use comparing::known::{lists_known, within};
 use comparing::parts::same_lists;
 use comparing::plans::{count_of, joined_plans, same_plans};

@@ -17,8 +17,8 @@ ghost use Rattle.schemes.specs.Put.{CitesMore, Put, ReadingsPut};
 ghost use Rattle.schemes.specs.Sizes.{Lined, Measured};
 ghost use Rattle.meaning.specs.declared.Form.TheVariants.{Flags};
 
-use bytes::bytes::wide;
-use bytes::limits;
+use parsing::bytes::wide;
+use parsing::limits;
 use finding::places::Found;
 use meaning::Form;
 use reading::marks::{Marks, state_of};
@@ -287,7 +287,7 @@ fn put_readings(
 }
 
 // How many lines there are, and how many bytes with the two of their number.
-#[derive(Drop)]
+#[derive(Clone, Copy)]
 pub struct Size {
     pub lines: usize,
     pub bytes: usize,

@@ -15,8 +15,8 @@ use Rattle.meaning.specs.Values.{contradictory}
 use Rattle.meaning.specs.States.{State}
 use Rattle.meaning.specs.ValueStates as Value
 use Rattle.meaning.proofs.TestLaws.{pick_true, pick_false, pick-cases}
-use Rattle.bytes.specs.Masks.{FewValues}
-use Rattle.bytes.proofs.LineReaderLaws.{counted_values}
+use Rattle.parsing.specs.Masks.{FewValues}
+use Rattle.parsing.proofs.LineReaderLaws.{counted_values}
 use Rattle.reading.specs.Noted.{mode_slot}
 use Rattle.valuing.specs.Valuing.{ValuedMarks}
 use Rattle.finding.specs.ValueLines.{ValueEffects, ValueRuns}

@@ -20,12 +20,12 @@ use Rattle.meaning.specs.Guards.{GuardedRequest, read_guarded}
 use Rattle.meaning.specs.Refusals.{nowhere, contradiction_in}
 use Rattle.meaning.specs.Lines.{knowledge_of, sensing, senses}
 use Rattle.meaning.proofs.TestLaws.{clash, pick_true, pick_false, same_test, some_has, has_some, some_those}
-use Rattle.bytes.specs.Bits.{bit_of}
+use Rattle.parsing.specs.Bits.{bit_of}
 use Rattle.reading.specs.Noted.{none_yet, count_slot, section_noted, table_noted, sensed_from, sensed_to, plan_slot, items_slot, goals_slot, guards_slot, word_bits, pair_slot, pair_there, slots, effects_slot, executability_slot, knowledge_slot}
 use Rattle.reading.specs.Planned.{items_of, plan_noted}
 use Rattle.reading.specs.Requested.{goals_place, plan_place, places_noted, tail_with, tail_noted, request_noted, guards_place, guarded_noted}
 use Rattle.reading.specs.Listed.{listed, ListHere, listed_as}
-use Rattle.bytes.proofs.BitLaws.{no_bit}
+use Rattle.parsing.proofs.BitLaws.{no_bit}
 use Rattle.reading.proofs.PlanSizes.{sequence_read}
 use Rattle.reader.proofs.WholeLaws.{GuardsRead, guarded_read}
 use Rattle.finding.specs.PlansHeld.{PlanHeld}

@@ -7,7 +7,7 @@ use mathlib.Core.List.{List}
 use lib.ListN.{get_or}
 use Rattle.meaning.specs.declared.Form.{Form}
 use Rattle.meaning.specs.Limits.{format}
-use Rattle.bytes.specs.Bits.{bit_of}
+use Rattle.parsing.specs.Bits.{bit_of}
 use Rattle.reading.specs.Noted.{effect_lines, run_lines, sensed_from, sensed_to, plan_slot, items_slot, goals_slot, guards_slot, mode_slot, pair_slot, pair_there, word_bits}
 use Rattle.reading.specs.Ordered.{InOrder}
 use Rattle.finding.proofs.PlanKept.{kept_agree}

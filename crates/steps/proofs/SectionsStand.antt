@@ -15,7 +15,7 @@ use Rattle.meaning.proofs.SettledLaws.{got_same}
 use Rattle.meaning.proofs.RangeLaws.{after_got, section_read}
 use Rattle.reading.specs.Planned.{bytes_of}
 use Rattle.reading.specs.Requested.{goals_place, plan_place}
-use Rattle.bytes.specs.Masks.{Counted}
+use Rattle.parsing.specs.Masks.{Counted}
 use Rattle.reading.specs.Listed.{span}
 use Rattle.reading.proofs.SectionLaws.{number_got}
 use Rattle.reading.proofs.PlanSizes.{sequence_read, literals_through}

@@ -15,9 +15,9 @@ use Rattle.meaning.specs.Tests.{both, either, some_of, Has}
 use Rattle.meaning.specs.Limits.{format}
 use Rattle.meaning.specs.Requests.{Knowledge}
 use Rattle.meaning.proofs.TestLaws.{by-test, clash, same_test, both_left, both_right, both_true, either_left, either_right, either_split, pick_true, pick_false}
-use Rattle.bytes.specs.Bits.{bit_of, with_bit}
+use Rattle.parsing.specs.Bits.{bit_of, with_bit}
 use Rattle.reading.specs.Noted.{knowledge, raised, word_bits, pair_slot, pair_there, bit_noted, pair_noted, action_in, note_line, lines_noted, sensed_from, sensed_to, sensed, slots}
-use Rattle.bytes.proofs.BitLaws.{bit_set, bit_kept}
+use Rattle.parsing.proofs.BitLaws.{bit_set, bit_kept}
 use Rattle.finding.proofs.KeptLaws.{raised_kept, raised_long, bit_noted_kept, bit_noted_long, note_long}
 
 raised_same : (slot v : ℕ) (t : List ℕ) → slot < length t → get_or (raised slot v t) slot 0 ≡ max (get_or t slot 0) v

@@ -7,7 +7,7 @@ ghost use Rattle.steps.specs.Held.{table_in};
 ghost use Rattle.steps.specs.AtHand.{AtHand, Marked};
 ghost use Rattle.meaning.specs.declared.Form.TheVariants.{Flags};
 
-use bytes::bytes::wide;
+use parsing::bytes::wide;
 use meaning::Runs;
 use reading::marks::{Look, Marks, Test, each_holds, look_at, mark_of, short_by};
 use reading::notes;

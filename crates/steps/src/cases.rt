@@ -13,13 +13,13 @@ ghost use Rattle.meaning.specs.declared.Form.TheVariants.{Flags};
 
 use super::actions::{can_be_run, state_after};
 use super::opening::{Open, opened};
-use bytes::bytes::wide;
-use bytes::limits;
+use parsing::bytes::wide;
+use parsing::limits;
 use reading::marks::Marks;
 use reading::notes::Notes;
 
 // What trying an action gives: it can't be run, it has too many cases or readings, or it can be run.
-#[derive(Drop)]
+#[derive(Clone, Copy)]
 pub enum Tried {
     Stuck,
     Many,

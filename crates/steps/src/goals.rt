@@ -9,7 +9,7 @@ ghost use Rattle.valuing.specs.Valuing.{ValuedMarks};
 ghost use Rattle.steps.specs.AtHand.{AtHand, MarkedAs};
 ghost use Rattle.steps.specs.Steps.{met_as, bound_as, knows_as, lacks_as, missed_as};
 
-use bytes::bytes::{two, wide};
+use parsing::bytes::{two, wide};
 use finding::branches::sequence_of;
 use finding::places::Found;
 use meaning::Form;
@@ -19,7 +19,7 @@ use reading::notes::{Notes, get};
 use valuing::states::known;
 
 // What is asked at the end: that a literal is known, or that it is known whether a fluent is true.
-#[derive(Drop)]
+#[derive(Clone, Copy)]
 pub enum Asked {
     Goal,
     Whether,

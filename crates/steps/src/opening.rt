@@ -10,8 +10,8 @@ ghost use Rattle.steps.specs.Flags.{flagged, flagged_at, OpenFlags, with_flag};
 ghost use Rattle.steps.specs.Opened.{Opened};
 ghost use Rattle.meaning.specs.declared.Form.TheVariants.{Flags};
 
-use bytes::bytes::wide;
-use bytes::limits;
+use parsing::bytes::wide;
+use parsing::limits;
 use reading::marks::Marks;
 use reading::notes;
 use reading::notes::{Notes, first_line, line_place, next_line};

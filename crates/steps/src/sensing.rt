@@ -7,7 +7,7 @@ ghost use Rattle.steps.specs.AtHand.{AtHand, Marked, MarkedAs};
 ghost use Rattle.steps.specs.Steps.{unknown_as, all_unknown, first_of};
 ghost use Rattle.meaning.specs.declared.Form.TheVariants.{Flags};
 
-use bytes::limits;
+use parsing::limits;
 use meaning::Form;
 use reading::marks::Marks;
 use reading::notes;

@@ -13,7 +13,7 @@ use super::actions::{can_be_run, state_after};
 use super::cases::{Tried, after_cases, try_cases};
 use super::sensing::is_too_wide;
 use acting::value_actions;
-use bytes::values::values_in;
+use parsing::values::values_in;
 use meaning::Form;
 use reading::marks::Marks;
 use reading::notes;

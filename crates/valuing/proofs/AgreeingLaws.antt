@@ -14,8 +14,8 @@ use Rattle.meaning.specs.Reading.{values_in, literals_in, leaves_one}
 use Rattle.meaning.specs.Values.{numbers, values_of, fits, disagree, exclusive}
 use Rattle.meaning.proofs.TestLaws.{by-test, clash, same_test, both_true, both_left, both_right, either_left, fails_true, fails_false, some_has, has_some, each_has, has_each}
 use Rattle.meaning.proofs.ValueLaws.{numbers_has}
-use Rattle.bytes.specs.Bits.{bit_of}
-use Rattle.bytes.specs.Masks.{Allows, FewValues}
+use Rattle.parsing.specs.Bits.{bit_of}
+use Rattle.parsing.specs.Masks.{Allows, FewValues}
 use Rattle.valuing.specs.Valuing.{agreeing, leaves_beside}
 
 -- Some literal of the list names the fluent.

@@ -17,8 +17,8 @@ use Rattle.meaning.specs.Values.{numbers, values_of, fits}
 use Rattle.meaning.specs.ValueStates.{mark_left}
 use Rattle.meaning.proofs.TestLaws.{by-test, pick_true, pick_false, those_has}
 use Rattle.meaning.proofs.ValueLaws.{numbers_has, numbered_length, numbered_at}
-use Rattle.bytes.specs.Bits.{bit_of}
-use Rattle.bytes.specs.Masks.{Allows, FewValues}
+use Rattle.parsing.specs.Bits.{bit_of}
+use Rattle.parsing.specs.Masks.{Allows, FewValues}
 use Rattle.valuing.specs.Valuing.{ValuedMarks}
 
 -- THE MARK of what is left where so much was found already: none, or one value with its mark.

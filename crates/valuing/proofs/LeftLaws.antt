@@ -17,9 +17,9 @@ use Rattle.meaning.specs.Reading.{values_in, literals_in}
 use Rattle.meaning.specs.Values.{numbers, values_of, fits}
 use Rattle.meaning.proofs.TestLaws.{by-test, clash, both_all, both_true, both_left, both_right, some_has, has_some, each_has, has_each}
 use Rattle.meaning.proofs.ValueLaws.{numbers_has}
-use Rattle.bytes.specs.Bits.{bit_of}
-use Rattle.bytes.specs.Masks.{every_value, satisfying, some_left, narrowed, Allows, FewValues}
-use Rattle.bytes.proofs.MaskLaws.{bit_both, satisfied_bit, every_bit}
+use Rattle.parsing.specs.Bits.{bit_of}
+use Rattle.parsing.specs.Masks.{every_value, satisfying, some_left, narrowed, Allows, FewValues}
+use Rattle.parsing.proofs.MaskLaws.{bit_both, satisfied_bit, every_bit}
 use Rattle.reading.specs.Listed.{twos_from, ValuesHere}
 use Rattle.valuing.specs.Valuing.{agreeing}
 use Rattle.valuing.proofs.TwosLaws.{TwosLeft, twos_start, twos_on, twos_next, twos_over, twos_whole, literal_near, literal_second}

@@ -16,7 +16,7 @@ use Rattle.meaning.specs.Values.{numbers, values_of, fits}
 use Rattle.meaning.proofs.TestLaws.{by-test, clash, both_true, both_left, both_right, either_split, pick-cases, some_has, has_some, has_each}
 use Rattle.meaning.proofs.SettledLaws.{got_same, fault≢got}
 use Rattle.meaning.proofs.RangeLaws.{not_refused, after_got}
-use Rattle.bytes.specs.Masks.{FewValues}
+use Rattle.parsing.specs.Masks.{FewValues}
 use Rattle.reading.specs.Listed.{twos_from, ValuesHere}
 use Rattle.reading.proofs.SectionLaws.{got_place, number_got, count_got}
 use Rattle.valuing.proofs.TwosLaws.{listed_fluent}

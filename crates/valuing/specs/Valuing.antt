@@ -5,7 +5,7 @@ use Rattle.meaning.specs.Limits.{format}
 use Rattle.meaning.specs.Reading.{values_in, literals_in}
 use Rattle.meaning.specs.Values.{values_of, fits}
 use Rattle.meaning.specs.ValueStates.{known, possible}
-use Rattle.bytes.specs.Bits.{bit_of}
+use Rattle.parsing.specs.Bits.{bit_of}
 use Rattle.reading.specs.declared.marks.Look.{Look}
 use Rattle.reading.specs.declared.marks.Look.TheVariants as look
 

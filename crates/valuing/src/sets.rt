@@ -1,13 +1,13 @@
 ghost use Rattle.std.specs.Prelude.{◌≡◌, length};
 ghost use Rattle.meaning.specs.Limits.{format};
 ghost use Rattle.meaning.specs.declared.Form.TheVariants.{Valued};
-ghost use Rattle.bytes.specs.Masks.{Allows, FewValues};
+ghost use Rattle.parsing.specs.Masks.{Allows, FewValues};
 ghost use Rattle.reading.specs.Listed.{ValuesHere, listed_as};
 ghost use Rattle.valuing.specs.Valuing.{agreeing};
 
-use bytes::bytes::{two, wide};
-use bytes::limits;
-use bytes::values::{Allowed, EVERY_VALUE, narrow, some_left, values_in};
+use parsing::bytes::{two, wide};
+use parsing::limits;
+use parsing::values::{Allowed, EVERY_VALUE, narrow, some_left, values_in};
 
 // What the list at p leaves to each fluent.
 pub fn allowed_by(s: &[u8], p: usize) -> Allowed

@@ -6,16 +6,16 @@ ghost use Rattle.meaning.specs.declared.Form.TheVariants.{Valued};
 ghost use Rattle.meaning.specs.Reading.{literals_in};
 ghost use Rattle.meaning.specs.Values.{numbers, values_of, fits};
 ghost use Rattle.meaning.specs.ValueStates.{known, mark_left};
-ghost use Rattle.bytes.specs.Bits.{bit_of};
-ghost use Rattle.bytes.specs.Masks.{FewValues};
+ghost use Rattle.parsing.specs.Bits.{bit_of};
+ghost use Rattle.parsing.specs.Masks.{FewValues};
 ghost use Rattle.reading.specs.Listed.{ValuesHere, listed_as};
 ghost use Rattle.valuing.specs.Valuing.{ValuedMarks, look_values};
 
 use super::sets::allowed_by;
-use bytes::bits::has_bit;
-use bytes::bytes::{two, wide};
-use bytes::limits;
-use bytes::values::values_in;
+use parsing::bits::has_bit;
+use parsing::bytes::{two, wide};
+use parsing::limits;
+use parsing::values::values_in;
 use reading::marks::{Look, Marks};
 
 // The literal is known true. A mark is one more than the value that it says, and 0 says none.

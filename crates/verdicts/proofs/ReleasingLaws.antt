@@ -28,12 +28,12 @@ use Rattle.meaning.proofs.SettledLaws.{got_same, next_got, refuse_got}
 use Rattle.meaning.proofs.RangeLaws.{got_place, count_within}
 use Rattle.meaning.proofs.VerifiedLaws.{within_unread}
 use Rattle.meaning.proofs.ReleaseLaws.{Opened, opened, answer_placed, plan_inside, table_below}
-use Rattle.bytes.specs.declared.bytes.Read.{Read}
-use Rattle.bytes.specs.declared.bytes.Read.TheVariants.{Value, Fault}
-use Rattle.bytes.specs.declared.lists.Passed.{Passed}
-use Rattle.bytes.specs.declared.lists.Passed.TheVariants.{To, Fault as Stop}
-use Rattle.bytes.specs.Read.{number_read, passed}
-use Rattle.bytes.proofs.ListLaws.{passed_to, passed_stop}
+use Rattle.parsing.specs.declared.bytes.Read.{Read}
+use Rattle.parsing.specs.declared.bytes.Read.TheVariants.{Value, Fault}
+use Rattle.parsing.specs.declared.lists.Passed.{Passed}
+use Rattle.parsing.specs.declared.lists.Passed.TheVariants.{To, Fault as Stop}
+use Rattle.parsing.specs.Read.{number_read, passed}
+use Rattle.parsing.proofs.ListLaws.{passed_to, passed_stop}
 use Rattle.reading.specs.Noted.{table_noted, noting, outcome, items_slot, slots}
 use Rattle.reading.specs.Planned.{items_of, outcome_met}
 use Rattle.reading.specs.Requested.{tail_noted, plan_first}

@@ -5,7 +5,7 @@ ghost use Rattle.verdicts.specs.Telling.{told, ByteMarks, Tallied};
 
 use super::answers;
 use super::answers::uncounted;
-use bytes::limits;
+use parsing::limits;
 use meaning::Answer;
 use steps::trying::{TOO_MANY, TOO_WIDE};
 use walking::tally::{SPENT, Tally};

@@ -6,7 +6,7 @@ ghost use Rattle.steps.specs.AtHand.{AtHand};
 ghost use Rattle.steps.specs.Steps.{form_in, first_in, walk_held};
 
 use super::telling::tell;
-use bytes::bytes::wide;
+use parsing::bytes::wide;
 use meaning::Answer;
 use reading::marks::{Marks, state_of};
 use reading::notes;

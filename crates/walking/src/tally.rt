@@ -3,7 +3,7 @@ ghost use Rattle.meaning.specs.Limits.{format};
 ghost use Rattle.meaning.specs.Walk.{fine, no_state, stopped};
 ghost use Rattle.walking.specs.Standing.{so_far, add, one, standing, stateless, Going, Notable, end_by, Held, tally_slots};
 
-use bytes::limits;
+use parsing::limits;
 use reading::marks::Marks;
 
 // How a walk stands: the answer's number so far (0, or 1 after a miss, while it goes on; else that of what stopped it, or 3 once

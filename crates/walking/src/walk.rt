@@ -16,8 +16,8 @@ use super::asked::{
 };
 use super::tally;
 use super::tally::{Tally, count_one, give_up, goes_on, note};
-use bytes::bytes::wide;
-use bytes::limits;
+use parsing::bytes::wide;
+use parsing::limits;
 use finding::places::Found;
 use reading::marks::Marks;
 use reading::notes;

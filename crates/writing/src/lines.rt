@@ -16,7 +16,7 @@ ghost use Rattle.meaning.specs.declared.Form.TheVariants.{Flags};
 use super::rests::put_rest;
 use super::room::{put, put_known, put_number, put_part};
 use super::rule_bytes;
-use bytes::limits;
+use parsing::limits;
 use finding::branches::sequence_of;
 use meaning::Form;
 use reading::marks::Marks;

@@ -12,8 +12,8 @@ ghost use Rattle.writing.specs.Ends.{ItemEnds};
 ghost use Rattle.meaning.specs.declared.Form.TheVariants.{Flags};
 
 use super::room::{put_number, put_part};
-use bytes::bytes::wide;
-use bytes::limits;
+use parsing::bytes::wide;
+use parsing::limits;
 use finding::branches::{next_item, next_place};
 use meaning::Form;
 use reading::notes;
@@ -46,7 +46,7 @@ fn item_end(s: &[u8], t: &Notes, i: usize) -> usize
 }
 
 // Where items that were put end, and how many they are.
-#[derive(Drop)]
+#[derive(Clone, Copy)]
 pub struct Put {
     pub end: usize,
     pub items: usize,

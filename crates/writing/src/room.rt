@@ -6,8 +6,8 @@ ghost use Rattle.meaning.specs.Derivations.{literals_of};
 ghost use Rattle.meaning.specs.Layouts.{list_written, number_written};
 ghost use Rattle.steps.specs.AtHand.{Marked};
 
-use bytes::bytes::wide;
-use bytes::limits;
+use parsing::bytes::wide;
+use parsing::limits;
 use reading::marks::Marks;
 
 pub fn put(room: &mut [u8], q: usize, x: u8)

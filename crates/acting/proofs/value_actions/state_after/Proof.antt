@@ -8,7 +8,7 @@ use Rattle.acting.proofs.value_actions.state_after.Tie as tie
 use Rattle.acting.proofs.value_actions.state_after.Reads as reads
 use Rattle.acting.proofs.value_actions.state_after.Lts as lts
 use Rattle.acting.proofs.value_actions.mark_set.Reads as mark-set-reads
-use Rattle.bytes.proofs.bytes.two.Reads as two-reads
+use Rattle.parsing.proofs.bytes.two.Reads as two-reads
 use Rattle.reading.proofs.notes.first_line.Reads as first-line-reads
 use Rattle.reading.proofs.notes.line_place.Reads as line-place-reads
 use Rattle.reading.proofs.notes.next_line.Reads as next-line-reads

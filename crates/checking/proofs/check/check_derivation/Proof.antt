@@ -6,8 +6,8 @@ use Rattle.checking.proofs.check.check_derivation.Statement.{statement}
 use Rattle.checking.proofs.check.check_derivation.Tie as tie
 use Rattle.checking.proofs.check.check_derivation.Reads as reads
 use Rattle.checking.proofs.check.check_derivation.Lts as lts
-use Rattle.bytes.proofs.bytes.two.Reads as two-reads
-use Rattle.bytes.proofs.bytes.wide.Reads as wide-reads
+use Rattle.parsing.proofs.bytes.two.Reads as two-reads
+use Rattle.parsing.proofs.bytes.wide.Reads as wide-reads
 use Rattle.checking.proofs.each_line.check_lines.Reads as check-lines-reads
 use Rattle.checking.proofs.question.check_end.Reads as check-end-reads
 use Rattle.deriving.proofs.derivations.sized.Reads as sized_Reads

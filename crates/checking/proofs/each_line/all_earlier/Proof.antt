@@ -5,7 +5,7 @@ use Rattle.checking.proofs.each_line.all_earlier.Statement.{statement}
 use Rattle.checking.proofs.each_line.all_earlier.Tie as tie
 use Rattle.checking.proofs.each_line.all_earlier.Reads as reads
 use Rattle.checking.proofs.each_line.all_earlier.Lts as lts
-use Rattle.bytes.proofs.bytes.two.Reads as two-reads
+use Rattle.parsing.proofs.bytes.two.Reads as two-reads
 
 abbrev invariant-loop : tie.invariant-loop
 invariant-loop d cites count i left₀ at₀ left at = Earlier d cites count i left at

@@ -5,7 +5,7 @@ use Rattle.checking.proofs.each_line.gives.Statement.{statement}
 use Rattle.checking.proofs.each_line.gives.Tie as tie
 use Rattle.checking.proofs.each_line.gives.Reads as reads
 use Rattle.checking.proofs.each_line.gives.Lts as lts
-use Rattle.bytes.proofs.bytes.two.Reads as two-reads
+use Rattle.parsing.proofs.bytes.two.Reads as two-reads
 use Rattle.comparing.proofs.spots.spot_of.Reads as spot-of-reads
 use Rattle.ruling.proofs.branchings.rule_4.Reads as rule-4-reads
 use Rattle.ruling.proofs.readings.rule_3.Reads as rule-3-reads

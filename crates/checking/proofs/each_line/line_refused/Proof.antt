@@ -5,7 +5,7 @@ use Rattle.checking.proofs.each_line.line_refused.Statement.{statement}
 use Rattle.checking.proofs.each_line.line_refused.Tie as tie
 use Rattle.checking.proofs.each_line.line_refused.Reads as reads
 use Rattle.checking.proofs.each_line.line_refused.Lts as lts
-use Rattle.bytes.proofs.bytes.wide.Reads as wide-reads
+use Rattle.parsing.proofs.bytes.wide.Reads as wide-reads
 use Rattle.checking.proofs.each_line.all_earlier.Reads as all-earlier-reads
 use Rattle.checking.proofs.each_line.gives.Reads as gives-reads
 use Rattle.checking.proofs.each_line.is_rule.Reads as is-rule-reads

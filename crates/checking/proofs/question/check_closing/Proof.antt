@@ -6,7 +6,7 @@ use Rattle.checking.proofs.question.check_closing.Statement.{statement}
 use Rattle.checking.proofs.question.check_closing.Tie as tie
 use Rattle.checking.proofs.question.check_closing.Reads as reads
 use Rattle.checking.proofs.question.check_closing.Lts as lts
-use Rattle.bytes.proofs.bytes.wide.Reads as wide-reads
+use Rattle.parsing.proofs.bytes.wide.Reads as wide-reads
 use Rattle.checking.proofs.question.check_fluents.Reads as check-fluents-reads
 use Rattle.checking.proofs.question.names.Reads as names-reads
 use Rattle.deriving.proofs.derived.place_of.Reads as place-of-reads

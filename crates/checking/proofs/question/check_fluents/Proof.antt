@@ -6,7 +6,7 @@ use Rattle.checking.proofs.question.check_fluents.Statement.{statement}
 use Rattle.checking.proofs.question.check_fluents.Tie as tie
 use Rattle.checking.proofs.question.check_fluents.Reads as reads
 use Rattle.checking.proofs.question.check_fluents.Lts as lts
-use Rattle.bytes.proofs.bytes.wide.Reads as wide-reads
+use Rattle.parsing.proofs.bytes.wide.Reads as wide-reads
 use Rattle.checking.proofs.question.names.Reads as names-reads
 
 abbrev invariant-loop : tie.invariant-loop

@@ -5,7 +5,7 @@ use Rattle.checking.proofs.question.names.Statement.{statement}
 use Rattle.checking.proofs.question.names.Tie as tie
 use Rattle.checking.proofs.question.names.Reads as reads
 use Rattle.checking.proofs.question.names.Lts as lts
-use Rattle.bytes.proofs.bytes.two.Reads as two-reads
+use Rattle.parsing.proofs.bytes.two.Reads as two-reads
 use Rattle.checking.proofs.question.asks.Reads as asks-reads
 use Rattle.comparing.proofs.spots.spot_of.Reads as spot-of-reads
 

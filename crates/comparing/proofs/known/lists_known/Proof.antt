@@ -12,7 +12,7 @@ use Rattle.comparing.proofs.known.lists_known.Statement.{statement}
 use Rattle.comparing.proofs.known.lists_known.Tie as tie
 use Rattle.comparing.proofs.known.lists_known.Reads as reads
 use Rattle.comparing.proofs.known.lists_known.Lts as lts
-use Rattle.bytes.proofs.bytes.wide.Reads as wide-reads
+use Rattle.parsing.proofs.bytes.wide.Reads as wide-reads
 
 abbrev invariant-loop : tie.invariant-loop
 invariant-loop marks s p end i₀ f₀ i f =

@@ -6,7 +6,7 @@ use Rattle.comparing.proofs.parts.same_lists.Tie as tie
 use Rattle.comparing.proofs.parts.same_lists.Reads as reads
 use Rattle.comparing.proofs.parts.same_lists.Lts as lts
 use Rattle.comparing.proofs.parts.same_part.Reads as same-part-reads
-use Rattle.bytes.proofs.bytes.wide.Reads as wide-reads
+use Rattle.parsing.proofs.bytes.wide.Reads as wide-reads
 
 -- src/parts.rt:46:15
 add-one : tie.Need-overflow-add-one

@@ -1,14 +1,14 @@
 -- At each turn what the whole list of citations gives is what those left give.
 use mathlib.Core.Path.{◌≡◌, refl}
 use Rattle.meaning.specs.Reading.{repeated, two_bytes_at}
-use Rattle.bytes.specs.Read.{passed}
+use Rattle.parsing.specs.Read.{passed}
 use Rattle.deriving.proofs.DerivationLaws.{citations_done, citations_fault, citations_next}
 use borrow.Author.Rules.{rules}
 use Rattle.deriving.proofs.derivations.citations_from.Statement.{statement}
 use Rattle.deriving.proofs.derivations.citations_from.Tie as tie
 use Rattle.deriving.proofs.derivations.citations_from.Reads as reads
 use Rattle.deriving.proofs.derivations.citations_from.Lts as lts
-use Rattle.bytes.proofs.bytes.two_bytes_at.Reads as two-bytes-at-reads
+use Rattle.parsing.proofs.bytes.two_bytes_at.Reads as two-bytes-at-reads
 
 abbrev invariant-loop : tie.invariant-loop
 invariant-loop s count start left₀ p₀ left p = passed (repeated (two_bytes_at s) count start) ≡ passed (repeated (two_bytes_at s) left p)

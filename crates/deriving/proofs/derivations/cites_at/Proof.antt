@@ -5,7 +5,7 @@ use Rattle.deriving.proofs.derivations.cites_at.Statement.{statement}
 use Rattle.deriving.proofs.derivations.cites_at.Tie as tie
 use Rattle.deriving.proofs.derivations.cites_at.Reads as reads
 use Rattle.deriving.proofs.derivations.cites_at.Lts as lts
-use Rattle.bytes.proofs.bytes.count_at.Reads as count-at-reads
+use Rattle.parsing.proofs.bytes.count_at.Reads as count-at-reads
 use Rattle.deriving.proofs.derivations.citations_from.Reads as citations-from-reads
 
 -- src/derivations.rt:67:11

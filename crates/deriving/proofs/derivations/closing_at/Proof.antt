@@ -5,7 +5,7 @@ use Rattle.deriving.proofs.derivations.closing_at.Statement.{statement}
 use Rattle.deriving.proofs.derivations.closing_at.Tie as tie
 use Rattle.deriving.proofs.derivations.closing_at.Reads as reads
 use Rattle.deriving.proofs.derivations.closing_at.Lts as lts
-use Rattle.bytes.proofs.bytes.byte_at.Reads as byte-at-reads
+use Rattle.parsing.proofs.bytes.byte_at.Reads as byte-at-reads
 use Rattle.deriving.proofs.derivations.citations_from.Reads as citations-from-reads
 
 -- src/derivations.rt:260:26

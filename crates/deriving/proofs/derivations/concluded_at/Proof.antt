@@ -5,8 +5,8 @@ use Rattle.deriving.proofs.derivations.concluded_at.Statement.{statement}
 use Rattle.deriving.proofs.derivations.concluded_at.Tie as tie
 use Rattle.deriving.proofs.derivations.concluded_at.Reads as reads
 use Rattle.deriving.proofs.derivations.concluded_at.Lts as lts
-use Rattle.bytes.proofs.bytes.byte_at.Reads as byte-at-reads
-use Rattle.bytes.proofs.lists.list_at.Reads as list-at-reads
+use Rattle.parsing.proofs.bytes.byte_at.Reads as byte-at-reads
+use Rattle.parsing.proofs.lists.list_at.Reads as list-at-reads
 use Rattle.deriving.proofs.derivations.conclusion_at.Reads as conclusion-at-reads
 
 -- src/derivations.rt:117:40

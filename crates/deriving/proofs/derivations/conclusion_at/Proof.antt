@@ -5,8 +5,8 @@ use Rattle.deriving.proofs.derivations.conclusion_at.Statement.{statement}
 use Rattle.deriving.proofs.derivations.conclusion_at.Tie as tie
 use Rattle.deriving.proofs.derivations.conclusion_at.Reads as reads
 use Rattle.deriving.proofs.derivations.conclusion_at.Lts as lts
-use Rattle.bytes.proofs.bytes.below_at.Reads as below-at-reads
-use Rattle.bytes.proofs.lists.list_at.Reads as list-at-reads
+use Rattle.parsing.proofs.bytes.below_at.Reads as below-at-reads
+use Rattle.parsing.proofs.lists.list_at.Reads as list-at-reads
 use Rattle.deriving.proofs.derivations.gives_fluent.Reads as gives-fluent-reads
 
 -- src/derivations.rt:97:9

@@ -5,7 +5,7 @@ use Rattle.deriving.proofs.derivations.line_at.Statement.{statement}
 use Rattle.deriving.proofs.derivations.line_at.Tie as tie
 use Rattle.deriving.proofs.derivations.line_at.Reads as reads
 use Rattle.deriving.proofs.derivations.line_at.Lts as lts
-use Rattle.bytes.proofs.lists.list_at.Reads as list-at-reads
+use Rattle.parsing.proofs.lists.list_at.Reads as list-at-reads
 use Rattle.deriving.proofs.derivations.plan_first.Reads as plan-first-reads
 
 -- src/derivations.rt:169:11

@@ -50,9 +50,9 @@ use Rattle.meaning.specs.Derivations.{line_at}
 use Rattle.meaning.specs.declared.Layout.{Layout}
 use Rattle.meaning.specs.contracts.Layout as O
 use Rattle.meaning.proofs.Layout.TheLaws as O'
-use Rattle.bytes.specs.declared.lists.Passed.{Passed}
-use Rattle.bytes.specs.contracts.lists.Passed as P
-use Rattle.bytes.proofs.lists.Passed.TheLaws as P'
+use Rattle.parsing.specs.declared.lists.Passed.{Passed}
+use Rattle.parsing.specs.contracts.lists.Passed as P
+use Rattle.parsing.proofs.lists.Passed.TheLaws as P'
 use Rattle.reading.specs.Noted.{noting, outcome}
 use Rattle.reader.specs.declared.Reader.{Reader}
 use Rattle.reader.proofs.LentArrays.{Slots}

@@ -1,7 +1,7 @@
 -- The plan, then the rest of the line: the first fault is the line's.
 use Rattle.deriving.proofs.DerivationLaws.{plan_whole, plan_then_fault, plan_fault}
 use borrow.Author.Rules.{rules}
-use Rattle.bytes.proofs.LineReaderLaws.{counted_flags}
+use Rattle.parsing.proofs.LineReaderLaws.{counted_flags}
 use Rattle.deriving.proofs.derivations.plan_first.Statement.{statement}
 use Rattle.deriving.proofs.derivations.plan_first.Tie as tie
 use Rattle.deriving.proofs.derivations.plan_first.Reads as reads

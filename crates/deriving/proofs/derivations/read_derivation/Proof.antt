@@ -6,7 +6,7 @@ use Rattle.deriving.proofs.derivations.read_derivation.Statement.{statement}
 use Rattle.deriving.proofs.derivations.read_derivation.Tie as tie
 use Rattle.deriving.proofs.derivations.read_derivation.Reads as reads
 use Rattle.deriving.proofs.derivations.read_derivation.Lts as lts
-use Rattle.bytes.proofs.bytes.two_bytes_at.Reads as two-bytes-at-reads
+use Rattle.parsing.proofs.bytes.two_bytes_at.Reads as two-bytes-at-reads
 use Rattle.deriving.proofs.derivations.closing_at.Reads as closing-at-reads
 use Rattle.deriving.proofs.derivations.note_place.Reads as note-place-reads
 use Rattle.deriving.proofs.derivations.read_lines.Reads as read-lines-reads

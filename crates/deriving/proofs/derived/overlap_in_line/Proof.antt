@@ -2,7 +2,7 @@
 -- finds the first overlap of just that plan. A plan that was read before is read again without a fault.
 use Rattle.deriving.proofs.DerivedLaws.{line_held, line_sought, line_read}
 use borrow.Author.Rules.{rules}
-use Rattle.bytes.proofs.LineReaderLaws.{counted_flags}
+use Rattle.parsing.proofs.LineReaderLaws.{counted_flags}
 use Rattle.deriving.proofs.derived.overlap_in_line.Statement.{statement}
 use Rattle.deriving.proofs.derived.overlap_in_line.Tie as tie
 use Rattle.deriving.proofs.derived.overlap_in_line.Reads as reads

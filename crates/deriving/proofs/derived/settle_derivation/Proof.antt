@@ -6,7 +6,7 @@ use Rattle.deriving.proofs.derived.settle_derivation.Statement.{statement}
 use Rattle.deriving.proofs.derived.settle_derivation.Tie as tie
 use Rattle.deriving.proofs.derived.settle_derivation.Reads as reads
 use Rattle.deriving.proofs.derived.settle_derivation.Lts as lts
-use Rattle.bytes.proofs.bytes.two.Reads as two-reads
+use Rattle.parsing.proofs.bytes.two.Reads as two-reads
 use Rattle.deriving.proofs.derivations.read_derivation.Reads as read-derivation-reads
 use Rattle.deriving.proofs.derivations.sized.Reads as sized_Reads
 use Rattle.deriving.proofs.derived.overlap_in_lines.Reads as overlap-in-lines-reads

@@ -5,7 +5,7 @@ use Rattle.finding.proofs.branches.span.Statement.{statement}
 use Rattle.finding.proofs.branches.span.Tie as tie
 use Rattle.finding.proofs.branches.span.Reads as reads
 use Rattle.finding.proofs.branches.span.Lts as lts
-use Rattle.bytes.proofs.bytes.wide.Reads as wide-reads
+use Rattle.parsing.proofs.bytes.wide.Reads as wide-reads
 
 -- src/branches.rt:17:24
 enum_told : tie.Need-enum-told

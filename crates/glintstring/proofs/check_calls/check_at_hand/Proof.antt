@@ -6,7 +6,7 @@ use Rattle.glintstring.proofs.check_calls.check_at_hand.Statement.{statement}
 use Rattle.glintstring.proofs.check_calls.check_at_hand.Tie as tie
 use Rattle.glintstring.proofs.check_calls.check_at_hand.Reads as reads
 use Rattle.glintstring.proofs.check_calls.check_at_hand.Lts as lts
-use Rattle.bytes.proofs.bytes.wide.Reads as wide-reads
+use Rattle.parsing.proofs.bytes.wide.Reads as wide-reads
 use Rattle.finding.proofs.branches.sequence_of.Reads as sequence-of-reads
 use Rattle.checking.proofs.check.check_derivation.Reads as check-derivation-reads
 use Rattle.glintstring.proofs.check_calls.is_beyond.Reads as is-beyond-reads

@@ -7,7 +7,7 @@ use Rattle.glintstring.proofs.derives.derive_at_hand.Statement.{statement}
 use Rattle.glintstring.proofs.derives.derive_at_hand.Tie as tie
 use Rattle.glintstring.proofs.derives.derive_at_hand.Reads as reads
 use Rattle.glintstring.proofs.derives.derive_at_hand.Lts as lts
-use Rattle.bytes.proofs.bytes.wide.Reads as wide-reads
+use Rattle.parsing.proofs.bytes.wide.Reads as wide-reads
 use Rattle.finding.proofs.branches.sequence_of.Reads as sequence-of-reads
 use Rattle.glintstring.proofs.derives.derive_walked.Reads as derive-walked-reads
 use Rattle.reading.proofs.notes.get.Reads as get-reads

@@ -5,7 +5,7 @@ use Rattle.glintstring.proofs.missing.line_at.Statement.{statement}
 use Rattle.glintstring.proofs.missing.line_at.Tie as tie
 use Rattle.glintstring.proofs.missing.line_at.Reads as reads
 use Rattle.glintstring.proofs.missing.line_at.Lts as lts
-use Rattle.bytes.proofs.bytes.wide.Reads as wide-reads
+use Rattle.parsing.proofs.bytes.wide.Reads as wide-reads
 use Rattle.glintstring.proofs.missing.marks_in.Reads as marks-in-reads
 use Rattle.glintstring.proofs.missing.narrowed.Reads as narrowed-reads
 use Rattle.steps.proofs.actions.ask.Reads as ask-reads

@@ -6,7 +6,7 @@ use Rattle.guide.proofs.going.do_item.Statement.{statement}
 use Rattle.guide.proofs.going.do_item.Tie as tie
 use Rattle.guide.proofs.going.do_item.Reads as reads
 use Rattle.guide.proofs.going.do_item.Lts as lts
-use Rattle.bytes.proofs.bytes.wide.Reads as wide-reads
+use Rattle.parsing.proofs.bytes.wide.Reads as wide-reads
 use Rattle.guide.proofs.going.refused_step.Reads as refused-step-reads
 use Rattle.reading.proofs.notes.get.Reads as get-reads
 use Rattle.steps.proofs.actions.can_be_run.Reads as can-be-run-reads

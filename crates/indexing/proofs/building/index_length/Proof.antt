@@ -6,7 +6,7 @@ use Rattle.indexing.proofs.building.index_length.Statement.{statement}
 use Rattle.indexing.proofs.building.index_length.Tie as tie
 use Rattle.indexing.proofs.building.index_length.Reads as reads
 use Rattle.indexing.proofs.building.index_length.Lts as lts
-use Rattle.bytes.proofs.bytes.wide.Reads as wide-reads
+use Rattle.parsing.proofs.bytes.wide.Reads as wide-reads
 use Rattle.reading.proofs.notes.get.Reads as get-reads
 
 -- src/building.rt:59:24

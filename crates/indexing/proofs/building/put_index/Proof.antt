@@ -7,7 +7,7 @@ use Rattle.indexing.proofs.building.put_index.Statement.{statement}
 use Rattle.indexing.proofs.building.put_index.Tie as tie
 use Rattle.indexing.proofs.building.put_index.Reads as reads
 use Rattle.indexing.proofs.building.put_index.Lts as lts
-use Rattle.bytes.proofs.bytes.wide.Reads as wide-reads
+use Rattle.parsing.proofs.bytes.wide.Reads as wide-reads
 use Rattle.indexing.proofs.building.put_lines.Reads as put-lines-reads
 
 abbrev invariant-loop : tie.invariant-loop

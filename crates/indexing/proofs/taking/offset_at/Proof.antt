@@ -5,7 +5,7 @@ use Rattle.indexing.proofs.taking.offset_at.Statement.{statement}
 use Rattle.indexing.proofs.taking.offset_at.Tie as tie
 use Rattle.indexing.proofs.taking.offset_at.Reads as reads
 use Rattle.indexing.proofs.taking.offset_at.Lts as lts
-use Rattle.bytes.proofs.bytes.two.Reads as two-reads
+use Rattle.parsing.proofs.bytes.two.Reads as two-reads
 
 -- src/taking.rt:23:15
 add_low : tie.Need-overflow-add-low

@@ -9,7 +9,7 @@ use Rattle.indexing.proofs.taking.take_index.Statement.{statement}
 use Rattle.indexing.proofs.taking.take_index.Tie as tie
 use Rattle.indexing.proofs.taking.take_index.Reads as reads
 use Rattle.indexing.proofs.taking.take_index.Lts as lts
-use Rattle.bytes.proofs.bytes.wide.Reads as wide-reads
+use Rattle.parsing.proofs.bytes.wide.Reads as wide-reads
 use Rattle.indexing.proofs.taking.take_lines.Reads as take-lines-reads
 use Rattle.meaning.specs.declared.Form.TheVariants.{Flags}
 

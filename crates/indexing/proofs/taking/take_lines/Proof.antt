@@ -9,7 +9,7 @@ use Rattle.indexing.proofs.taking.take_lines.Statement.{statement}
 use Rattle.indexing.proofs.taking.take_lines.Tie as tie
 use Rattle.indexing.proofs.taking.take_lines.Reads as reads
 use Rattle.indexing.proofs.taking.take_lines.Lts as lts
-use Rattle.bytes.proofs.bytes.wide.Reads as wide-reads
+use Rattle.parsing.proofs.bytes.wide.Reads as wide-reads
 use Rattle.reading.proofs.notes.put.Reads as put_reads
 
 abbrev invariant-loop : tie.invariant-loop

@@ -5,8 +5,8 @@ use Rattle.reader.proofs.whole.guards_at.Statement.{statement}
 use Rattle.reader.proofs.whole.guards_at.Tie as tie
 use Rattle.reader.proofs.whole.guards_at.Reads as reads
 use Rattle.reader.proofs.whole.guards_at.Lts as lts
-use Rattle.bytes.proofs.bytes.wide.Reads as wide-reads
-use Rattle.bytes.proofs.lists.list_at.Reads as list-at-reads
+use Rattle.parsing.proofs.bytes.wide.Reads as wide-reads
+use Rattle.parsing.proofs.lists.list_at.Reads as list-at-reads
 use Rattle.reader.proofs.whole.nothing_after.Reads as nothing-after-reads
 use Rattle.reading.proofs.notes.put.Reads as put_reads
 

@@ -5,7 +5,7 @@ use Rattle.reader.proofs.whole.sections_as.Statement.{statement}
 use Rattle.reader.proofs.whole.sections_as.Tie as tie
 use Rattle.reader.proofs.whole.sections_as.Reads as reads
 use Rattle.reader.proofs.whole.sections_as.Lts as lts
-use Rattle.bytes.proofs.bytes.wide.Reads as wide-reads
+use Rattle.parsing.proofs.bytes.wide.Reads as wide-reads
 use Rattle.reader.proofs.whole.actions_place.Reads as actions-place-reads
 use Rattle.reading.proofs.requests.request_at.Reads as request-at-reads
 use Rattle.reading.proofs.requests.table_at.Reads as table-at-reads

@@ -8,7 +8,7 @@ use Rattle.reading.proofs.marks.look_at.Statement.{statement}
 use Rattle.reading.proofs.marks.look_at.Tie as tie
 use Rattle.reading.proofs.marks.look_at.Reads as reads
 use Rattle.reading.proofs.marks.look_at.Lts as lts
-use Rattle.bytes.proofs.bytes.wide.Reads as wide-reads
+use Rattle.parsing.proofs.bytes.wide.Reads as wide-reads
 use Rattle.reading.proofs.marks.mark_of.Reads as mark-of-reads
 
 abbrev invariant-loop : tie.invariant-loop

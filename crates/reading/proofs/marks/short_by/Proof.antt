@@ -11,7 +11,7 @@ use Rattle.reading.proofs.marks.short_by.Statement.{statement}
 use Rattle.reading.proofs.marks.short_by.Tie as tie
 use Rattle.reading.proofs.marks.short_by.Reads as reads
 use Rattle.reading.proofs.marks.short_by.Lts as lts
-use Rattle.bytes.proofs.bytes.wide.Reads as wide-reads
+use Rattle.parsing.proofs.bytes.wide.Reads as wide-reads
 use Rattle.reading.proofs.marks.holds.Reads as holds-reads
 
 abbrev invariant-loop : tie.invariant-loop

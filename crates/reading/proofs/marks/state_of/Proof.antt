@@ -10,7 +10,7 @@ use Rattle.reading.proofs.marks.state_of.Statement.{statement}
 use Rattle.reading.proofs.marks.state_of.Tie as tie
 use Rattle.reading.proofs.marks.state_of.Reads as reads
 use Rattle.reading.proofs.marks.state_of.Lts as lts
-use Rattle.bytes.proofs.bytes.wide.Reads as wide-reads
+use Rattle.parsing.proofs.bytes.wide.Reads as wide-reads
 use Rattle.reading.proofs.marks.mark_of.Reads as mark-of-reads
 
 abbrev invariant-loop : tie.invariant-loop

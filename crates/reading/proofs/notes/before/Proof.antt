@@ -5,7 +5,7 @@ use Rattle.reading.proofs.notes.before.Statement.{statement}
 use Rattle.reading.proofs.notes.before.Tie as tie
 use Rattle.reading.proofs.notes.before.Reads as reads
 use Rattle.reading.proofs.notes.before.Lts as lts
-use Rattle.bytes.proofs.bytes.wide.Reads as wide-reads
+use Rattle.parsing.proofs.bytes.wide.Reads as wide-reads
 
 -- src/notes.rt:125:16
 add-result : tie.Need-overflow-add-result

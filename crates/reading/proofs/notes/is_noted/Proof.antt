@@ -5,7 +5,7 @@ use Rattle.reading.proofs.notes.is_noted.Statement.{statement}
 use Rattle.reading.proofs.notes.is_noted.Tie as tie
 use Rattle.reading.proofs.notes.is_noted.Reads as reads
 use Rattle.reading.proofs.notes.is_noted.Lts as lts
-use Rattle.bytes.proofs.bits.has_bit.Reads as has-bit-reads
+use Rattle.parsing.proofs.bits.has_bit.Reads as has-bit-reads
 use Rattle.reading.proofs.notes.pair_slot.Reads as pair-slot-reads
 
 -- src/notes.rt:169:9

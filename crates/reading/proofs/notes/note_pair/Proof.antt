@@ -5,7 +5,7 @@ use Rattle.reading.proofs.notes.note_pair.Statement.{statement}
 use Rattle.reading.proofs.notes.note_pair.Tie as tie
 use Rattle.reading.proofs.notes.note_pair.Reads as reads
 use Rattle.reading.proofs.notes.note_pair.Lts as lts
-use Rattle.bytes.proofs.bits.with_bit.Reads as with-bit-reads
+use Rattle.parsing.proofs.bits.with_bit.Reads as with-bit-reads
 use Rattle.reading.proofs.notes.pair_slot.Reads as pair-slot-reads
 use Rattle.reading.proofs.notes.raise.Reads as raise-reads
 

@@ -5,7 +5,7 @@ use Rattle.reading.proofs.requests.actions_at.Statement.{statement}
 use Rattle.reading.proofs.requests.actions_at.Tie as tie
 use Rattle.reading.proofs.requests.actions_at.Reads as reads
 use Rattle.reading.proofs.requests.actions_at.Lts as lts
-use Rattle.bytes.proofs.bytes.count_at.Reads as count-at-reads
+use Rattle.parsing.proofs.bytes.count_at.Reads as count-at-reads
 use Rattle.reading.proofs.requests.facts_at.Reads as facts-at-reads
 
 -- src/requests.rt:39:11

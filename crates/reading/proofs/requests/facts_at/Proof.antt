@@ -5,7 +5,7 @@ use Rattle.reading.proofs.requests.facts_at.Statement.{statement}
 use Rattle.reading.proofs.requests.facts_at.Tie as tie
 use Rattle.reading.proofs.requests.facts_at.Reads as reads
 use Rattle.reading.proofs.requests.facts_at.Lts as lts
-use Rattle.bytes.proofs.forms.literals_at.Reads as literals-at-reads
+use Rattle.parsing.proofs.forms.literals_at.Reads as literals-at-reads
 use Rattle.reading.proofs.sections.three_sections.Reads as three-sections-reads
 
 -- src/requests.rt:27:11

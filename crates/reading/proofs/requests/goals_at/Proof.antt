@@ -5,8 +5,8 @@ use Rattle.reading.proofs.requests.goals_at.Statement.{statement}
 use Rattle.reading.proofs.requests.goals_at.Tie as tie
 use Rattle.reading.proofs.requests.goals_at.Reads as reads
 use Rattle.reading.proofs.requests.goals_at.Lts as lts
-use Rattle.bytes.proofs.lists.list_at.Reads as list-at-reads
-use Rattle.bytes.proofs.forms.literals_at.Reads as literals-at-reads
+use Rattle.parsing.proofs.lists.list_at.Reads as list-at-reads
+use Rattle.parsing.proofs.forms.literals_at.Reads as literals-at-reads
 use Rattle.reading.proofs.requests.put_places.Reads as put-places-reads
 
 -- src/requests.rt:77:11

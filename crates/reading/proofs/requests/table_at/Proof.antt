@@ -5,7 +5,7 @@ use Rattle.reading.proofs.requests.table_at.Statement.{statement}
 use Rattle.reading.proofs.requests.table_at.Tie as tie
 use Rattle.reading.proofs.requests.table_at.Reads as reads
 use Rattle.reading.proofs.requests.table_at.Lts as lts
-use Rattle.bytes.proofs.bytes.count_at.Reads as count-at-reads
+use Rattle.parsing.proofs.bytes.count_at.Reads as count-at-reads
 use Rattle.reading.proofs.requests.actions_at.Reads as actions-at-reads
 use Rattle.reading.proofs.requests.values_at.Reads as values-at-reads
 

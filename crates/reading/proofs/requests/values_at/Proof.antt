@@ -5,7 +5,7 @@ use Rattle.reading.proofs.requests.values_at.Statement.{statement}
 use Rattle.reading.proofs.requests.values_at.Tie as tie
 use Rattle.reading.proofs.requests.values_at.Reads as reads
 use Rattle.reading.proofs.requests.values_at.Lts as lts
-use Rattle.bytes.proofs.values.value_counts_at.Reads as value-counts-at-reads
+use Rattle.parsing.proofs.values.value_counts_at.Reads as value-counts-at-reads
 
 -- src/requests.rt:57:24
 enum_told : tie.Need-enum-told

@@ -5,9 +5,9 @@ use Rattle.reading.proofs.sections.line_at.Statement.{statement}
 use Rattle.reading.proofs.sections.line_at.Tie as tie
 use Rattle.reading.proofs.sections.line_at.Reads as reads
 use Rattle.reading.proofs.sections.line_at.Lts as lts
-use Rattle.bytes.proofs.table_lines.effect_at.Reads as effect-at-reads
-use Rattle.bytes.proofs.table_lines.executability_at.Reads as executability-at-reads
-use Rattle.bytes.proofs.table_lines.knowledge_at.Reads as knowledge-at-reads
+use Rattle.parsing.proofs.table_lines.effect_at.Reads as effect-at-reads
+use Rattle.parsing.proofs.table_lines.executability_at.Reads as executability-at-reads
+use Rattle.parsing.proofs.table_lines.knowledge_at.Reads as knowledge-at-reads
 
 -- src/sections.rt:34:29
 enum_told : tie.Need-enum-told

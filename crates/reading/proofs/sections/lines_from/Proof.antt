@@ -9,7 +9,7 @@ use Rattle.reading.proofs.sections.lines_from.Statement.{statement}
 use Rattle.reading.proofs.sections.lines_from.Tie as tie
 use Rattle.reading.proofs.sections.lines_from.Reads as reads
 use Rattle.reading.proofs.sections.lines_from.Lts as lts
-use Rattle.bytes.proofs.bytes.wide.Reads as wide-reads
+use Rattle.parsing.proofs.bytes.wide.Reads as wide-reads
 use Rattle.reading.proofs.sections.line_at.Reads as line-at-reads
 use Rattle.reading.proofs.sections.note_line.Reads as note-line-reads
 

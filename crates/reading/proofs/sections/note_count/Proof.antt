@@ -5,7 +5,7 @@ use Rattle.reading.proofs.sections.note_count.Statement.{statement}
 use Rattle.reading.proofs.sections.note_count.Tie as tie
 use Rattle.reading.proofs.sections.note_count.Reads as reads
 use Rattle.reading.proofs.sections.note_count.Lts as lts
-use Rattle.bytes.proofs.bytes.wide.Reads as wide-reads
+use Rattle.parsing.proofs.bytes.wide.Reads as wide-reads
 use Rattle.reading.proofs.sections.count_slot.Reads as count-slot-reads
 use Rattle.reading.proofs.notes.put.Reads as put_reads
 

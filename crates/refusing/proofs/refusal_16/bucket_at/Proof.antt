@@ -5,7 +5,7 @@ use Rattle.refusing.proofs.refusal_16.bucket_at.Statement.{statement}
 use Rattle.refusing.proofs.refusal_16.bucket_at.Tie as tie
 use Rattle.refusing.proofs.refusal_16.bucket_at.Reads as reads
 use Rattle.refusing.proofs.refusal_16.bucket_at.Lts as lts
-use Rattle.bytes.proofs.bytes.wide.Reads as wide-reads
+use Rattle.parsing.proofs.bytes.wide.Reads as wide-reads
 use Rattle.refusing.proofs.refusal_16.fluent_by.Reads as fluent-by-reads
 
 -- src/refusal_16.rt:56:13

@@ -1,12 +1,12 @@
 -- The last effect of the bucket leads to all that can be contradicted; where there is none, none is.
 use Rattle.refusing.proofs.Laws16.{new_fit, last_there, last_fits, none_sought, sought_starts, runs_as, effects_as, linked_as, sought_as, among_as}
-use Rattle.bytes.proofs.LineReaderLaws.{counted_values}
+use Rattle.parsing.proofs.LineReaderLaws.{counted_values}
 use borrow.Author.Rules.{rules}
 use Rattle.refusing.proofs.refusal_16.contradicted.Statement.{statement}
 use Rattle.refusing.proofs.refusal_16.contradicted.Tie as tie
 use Rattle.refusing.proofs.refusal_16.contradicted.Reads as reads
 use Rattle.refusing.proofs.refusal_16.contradicted.Lts as lts
-use Rattle.bytes.proofs.bytes.wide.Reads as wide-reads
+use Rattle.parsing.proofs.bytes.wide.Reads as wide-reads
 use Rattle.reading.proofs.notes.line_place.Reads as line-place-reads
 use Rattle.refusing.proofs.refusal_16.bucket_at.Reads as bucket-at-reads
 use Rattle.refusing.proofs.refusal_16.contradicted_flags.Reads as contradicted-flags-reads

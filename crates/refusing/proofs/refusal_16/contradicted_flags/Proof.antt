@@ -1,6 +1,6 @@
 -- The links lead to each earlier effect in the same bucket, and no other can be contradicted; they fall, so the loop ends.
 use Rattle.meaning.specs.declared.Form.TheVariants.{Flags}
-use Rattle.bytes.proofs.LineReaderLaws.{counted_flags}
+use Rattle.parsing.proofs.LineReaderLaws.{counted_flags}
 use Rattle.refusing.specs.Refusal16.{Sought}
 use Rattle.refusing.proofs.Laws16.{new_fit, flags_body, flags_body_fits, sought_below, sought_there, sought_done, sought_less, sought_fit, sought_met, sought_next}
 use borrow.Author.Rules.{rules}
@@ -8,7 +8,7 @@ use Rattle.refusing.proofs.refusal_16.contradicted_flags.Statement.{statement}
 use Rattle.refusing.proofs.refusal_16.contradicted_flags.Tie as tie
 use Rattle.refusing.proofs.refusal_16.contradicted_flags.Reads as reads
 use Rattle.refusing.proofs.refusal_16.contradicted_flags.Lts as lts
-use Rattle.bytes.proofs.bytes.wide.Reads as wide-reads
+use Rattle.parsing.proofs.bytes.wide.Reads as wide-reads
 use Rattle.reading.proofs.marks.state_of.Reads as state-of-reads
 use Rattle.reading.proofs.notes.line_place.Reads as line-place-reads
 use Rattle.refusing.proofs.refusal_16.contradicts.Reads as contradicts-reads

@@ -7,7 +7,7 @@ use Rattle.refusing.proofs.refusal_16.contradicted_values.Statement.{statement}
 use Rattle.refusing.proofs.refusal_16.contradicted_values.Tie as tie
 use Rattle.refusing.proofs.refusal_16.contradicted_values.Reads as reads
 use Rattle.refusing.proofs.refusal_16.contradicted_values.Lts as lts
-use Rattle.bytes.proofs.bytes.wide.Reads as wide-reads
+use Rattle.parsing.proofs.bytes.wide.Reads as wide-reads
 use Rattle.reading.proofs.notes.line_place.Reads as line-place-reads
 use Rattle.refusing.proofs.refusal_16.values_contradict.Reads as values-contradict-reads
 use Rattle.valuing.proofs.sets.allowed_by.Reads as allowed-by-reads

@@ -6,7 +6,7 @@ use Rattle.refusing.proofs.refusal_16.contradicts.Statement.{statement}
 use Rattle.refusing.proofs.refusal_16.contradicts.Tie as tie
 use Rattle.refusing.proofs.refusal_16.contradicts.Reads as reads
 use Rattle.refusing.proofs.refusal_16.contradicts.Lts as lts
-use Rattle.bytes.proofs.bytes.wide.Reads as wide-reads
+use Rattle.parsing.proofs.bytes.wide.Reads as wide-reads
 use Rattle.reading.proofs.marks.each_holds.Reads as each-holds-reads
 use Rattle.reading.proofs.marks.state_of.Reads as state-of-reads
 use Rattle.refusing.proofs.refusal_16.runs_with.Reads as runs-with-reads

@@ -5,7 +5,7 @@ use Rattle.refusing.proofs.refusal_16.fluent_by.Statement.{statement}
 use Rattle.refusing.proofs.refusal_16.fluent_by.Tie as tie
 use Rattle.refusing.proofs.refusal_16.fluent_by.Reads as reads
 use Rattle.refusing.proofs.refusal_16.fluent_by.Lts as lts
-use Rattle.bytes.proofs.bytes.wide.Reads as wide-reads
+use Rattle.parsing.proofs.bytes.wide.Reads as wide-reads
 
 -- src/refusal_16.rt:46:24
 enum_told : tie.Need-enum-told

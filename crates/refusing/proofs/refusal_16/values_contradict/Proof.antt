@@ -5,7 +5,7 @@ use Rattle.refusing.proofs.refusal_16.values_contradict.Statement.{statement}
 use Rattle.refusing.proofs.refusal_16.values_contradict.Tie as tie
 use Rattle.refusing.proofs.refusal_16.values_contradict.Reads as reads
 use Rattle.refusing.proofs.refusal_16.values_contradict.Lts as lts
-use Rattle.bytes.proofs.bytes.wide.Reads as wide-reads
+use Rattle.parsing.proofs.bytes.wide.Reads as wide-reads
 use Rattle.refusing.proofs.refusal_16.sets_apart.Reads as sets-apart-reads
 use Rattle.refusing.proofs.refusal_16.values_run_with.Reads as values-run-with-reads
 use Rattle.valuing.proofs.sets.agrees.Reads as agrees-reads

@@ -6,7 +6,7 @@ use Rattle.refusing.proofs.refusal_17.mixed.Statement.{statement}
 use Rattle.refusing.proofs.refusal_17.mixed.Tie as tie
 use Rattle.refusing.proofs.refusal_17.mixed.Reads as reads
 use Rattle.refusing.proofs.refusal_17.mixed.Lts as lts
-use Rattle.bytes.proofs.bytes.wide.Reads as wide-reads
+use Rattle.parsing.proofs.bytes.wide.Reads as wide-reads
 use Rattle.reading.proofs.notes.first_line.Reads as first-line-reads
 
 abbrev invariant-loop : tie.invariant-loop

@@ -1,6 +1,6 @@
 -- Each form has its own test of a condition.
 use Rattle.refusing.proofs.Laws18.{branches_as, apart_as}
-use Rattle.bytes.proofs.LineReaderLaws.{counted_values}
+use Rattle.parsing.proofs.LineReaderLaws.{counted_values}
 use borrow.Author.Rules.{rules}
 use Rattle.refusing.proofs.refusal_18.all_exclusive.Statement.{statement}
 use Rattle.refusing.proofs.refusal_18.all_exclusive.Tie as tie

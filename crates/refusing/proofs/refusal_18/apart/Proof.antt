@@ -5,7 +5,7 @@ use Rattle.refusing.proofs.refusal_18.apart.Statement.{statement}
 use Rattle.refusing.proofs.refusal_18.apart.Tie as tie
 use Rattle.refusing.proofs.refusal_18.apart.Reads as reads
 use Rattle.refusing.proofs.refusal_18.apart.Lts as lts
-use Rattle.bytes.proofs.bytes.wide.Reads as wide-reads
+use Rattle.parsing.proofs.bytes.wide.Reads as wide-reads
 use Rattle.refusing.proofs.refusal_18.all_exclusive.Reads as all-exclusive-reads
 
 -- src/refusal_18.rt:148:8

@@ -3,7 +3,7 @@
 use Rattle.ruling.proofs.RuleLaws.{some_plan}
 use Rattle.ruling.proofs.BranchRuleLaws.{starts_other, ends_other, plan_counted, first_fits, count_none, first_there, other_first, branching_first, rule_by_branch, read_again}
 use borrow.Author.Rules.{rules}
-use Rattle.bytes.proofs.LineReaderLaws.{counted_flags}
+use Rattle.parsing.proofs.LineReaderLaws.{counted_flags}
 use Rattle.ruling.proofs.branchings.rule_4.Statement.{statement}
 use Rattle.ruling.proofs.branchings.rule_4.Tie as tie
 use Rattle.ruling.proofs.branchings.rule_4.Reads as reads

@@ -9,7 +9,7 @@ use Rattle.ruling.proofs.branchings.some_branch.Statement.{statement}
 use Rattle.ruling.proofs.branchings.some_branch.Tie as tie
 use Rattle.ruling.proofs.branchings.some_branch.Reads as reads
 use Rattle.ruling.proofs.branchings.some_branch.Lts as lts
-use Rattle.bytes.proofs.bytes.wide.Reads as wide-reads
+use Rattle.parsing.proofs.bytes.wide.Reads as wide-reads
 use Rattle.ruling.proofs.branchings.after_branches.Reads as after-branches-reads
 use Rattle.comparing.proofs.plans.count_of.Reads as count-of-reads
 use Rattle.comparing.proofs.plans.joined_plans.Reads as joined-plans-reads

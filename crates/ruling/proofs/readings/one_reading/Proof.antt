@@ -5,8 +5,8 @@ use Rattle.ruling.proofs.readings.one_reading.Statement.{statement}
 use Rattle.ruling.proofs.readings.one_reading.Tie as tie
 use Rattle.ruling.proofs.readings.one_reading.Reads as reads
 use Rattle.ruling.proofs.readings.one_reading.Lts as lts
-use Rattle.bytes.proofs.bytes.two.Reads as two-reads
-use Rattle.bytes.proofs.bytes.wide.Reads as wide-reads
+use Rattle.parsing.proofs.bytes.two.Reads as two-reads
+use Rattle.parsing.proofs.bytes.wide.Reads as wide-reads
 use Rattle.comparing.proofs.spots.spot_of.Reads as spot-of-reads
 use Rattle.ruling.proofs.readings.says_reading.Reads as says-reading-reads
 

@@ -8,7 +8,7 @@ use Rattle.ruling.proofs.rules.rule_2.Statement.{statement}
 use Rattle.ruling.proofs.rules.rule_2.Tie as tie
 use Rattle.ruling.proofs.rules.rule_2.Reads as reads
 use Rattle.ruling.proofs.rules.rule_2.Lts as lts
-use Rattle.bytes.proofs.bytes.wide.Reads as wide-reads
+use Rattle.parsing.proofs.bytes.wide.Reads as wide-reads
 use Rattle.comparing.proofs.known.lists_known.Reads as lists-known-reads
 use Rattle.comparing.proofs.plans.count_of.Reads as count-of-reads
 use Rattle.reading.proofs.marks.state_of.Reads as state-of-reads

@@ -6,7 +6,7 @@ use Rattle.ruling.proofs.rules.rule_7.Statement.{statement}
 use Rattle.ruling.proofs.rules.rule_7.Tie as tie
 use Rattle.ruling.proofs.rules.rule_7.Reads as reads
 use Rattle.ruling.proofs.rules.rule_7.Lts as lts
-use Rattle.bytes.proofs.bytes.wide.Reads as wide-reads
+use Rattle.parsing.proofs.bytes.wide.Reads as wide-reads
 use Rattle.comparing.proofs.plans.count_of.Reads as count-of-reads
 use Rattle.reading.proofs.marks.state_of.Reads as state-of-reads
 use Rattle.finding.proofs.branches.sequence_of.Reads as sequence-of-reads

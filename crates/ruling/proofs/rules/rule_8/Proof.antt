@@ -7,7 +7,7 @@ use Rattle.ruling.proofs.rules.rule_8.Statement.{statement}
 use Rattle.ruling.proofs.rules.rule_8.Tie as tie
 use Rattle.ruling.proofs.rules.rule_8.Reads as reads
 use Rattle.ruling.proofs.rules.rule_8.Lts as lts
-use Rattle.bytes.proofs.bytes.wide.Reads as wide-reads
+use Rattle.parsing.proofs.bytes.wide.Reads as wide-reads
 use Rattle.comparing.proofs.parts.same_lists.Reads as same-lists-reads
 use Rattle.comparing.proofs.plans.same_plans.Reads as same-plans-reads
 use Rattle.finding.proofs.branches.sequence_of.Reads as sequence-of-reads

@@ -24,7 +24,7 @@ use Rattle.schemes.proofs.scheme.+put_acting_put_branching_put_from_put_readings
 use Rattle.schemes.proofs.scheme.put_sensing.Reads as put-sensing
 use Rattle.schemes.proofs.scheme.put_sensing.Kinds as put-sensing-kinds
 use Rattle.schemes.proofs.scheme.+put_acting_put_branching_put_from_put_readings_put_sensing.Lts-put_sensing as put-sensing-lts
-use Rattle.bytes.proofs.bytes.wide.Reads as wide-reads
+use Rattle.parsing.proofs.bytes.wide.Reads as wide-reads
 use Rattle.reading.proofs.notes.get.Reads as get-reads
 use Rattle.schemes.proofs.scheme.cite.Reads as cite-reads
 use Rattle.schemes.proofs.scheme.put_composed.Reads as put-composed-reads

@@ -8,7 +8,7 @@ use Rattle.steps.proofs.actions.state_after.Statement.{statement}
 use Rattle.steps.proofs.actions.state_after.Tie as tie
 use Rattle.steps.proofs.actions.state_after.Reads as reads
 use Rattle.steps.proofs.actions.state_after.Lts as lts
-use Rattle.bytes.proofs.bytes.wide.Reads as wide-reads
+use Rattle.parsing.proofs.bytes.wide.Reads as wide-reads
 use Rattle.reading.proofs.marks.each_holds.Reads as each-holds-reads
 use Rattle.reading.proofs.marks.look_at.Reads as look-at-reads
 use Rattle.reading.proofs.marks.mark_of.Reads as mark-of-reads

@@ -8,7 +8,7 @@ use borrow.Fn.PlainCycle.{Measures, is, falls, and}
 use Rattle.steps.proofs.cases.after_in_each.Reads as after-in-each
 use Rattle.steps.proofs.cases.after_in_each.Kinds as after-in-each-kinds
 use Rattle.steps.proofs.cases.+after_in_each.Lts-after_in_each as after-in-each-lts
-use Rattle.bytes.proofs.bytes.wide.Reads as wide-reads
+use Rattle.parsing.proofs.bytes.wide.Reads as wide-reads
 use Rattle.steps.proofs.actions.state_after.Reads as state-after-reads
 use Rattle.steps.proofs.cases.shared.Reads as shared-reads
 use Rattle.steps.proofs.cases.+after_in_each.{statement}

@@ -8,7 +8,7 @@ use borrow.Fn.PlainCycle.{Measures, is, falls, and}
 use Rattle.steps.proofs.cases.runs_in_each.Reads as runs-in-each
 use Rattle.steps.proofs.cases.runs_in_each.Kinds as runs-in-each-kinds
 use Rattle.steps.proofs.cases.+runs_in_each.Lts-runs_in_each as runs-in-each-lts
-use Rattle.bytes.proofs.bytes.wide.Reads as wide-reads
+use Rattle.parsing.proofs.bytes.wide.Reads as wide-reads
 use Rattle.steps.proofs.actions.can_be_run.Reads as can-be-run-reads
 use Rattle.steps.proofs.cases.+runs_in_each.{statement}
 use Rattle.steps.proofs.cases.+runs_in_each.Tie.{close}

@@ -5,7 +5,7 @@ use Rattle.steps.proofs.cases.try_cases.Statement.{statement}
 use Rattle.steps.proofs.cases.try_cases.Tie as tie
 use Rattle.steps.proofs.cases.try_cases.Reads as reads
 use Rattle.steps.proofs.cases.try_cases.Lts as lts
-use Rattle.bytes.proofs.bytes.wide.Reads as wide-reads
+use Rattle.parsing.proofs.bytes.wide.Reads as wide-reads
 use Rattle.steps.proofs.actions.can_be_run.Reads as can-be-run-reads
 use Rattle.steps.proofs.cases.runs_in_each.Reads as runs-in-each-reads
 use Rattle.steps.proofs.opening.opened.Reads as opened-reads

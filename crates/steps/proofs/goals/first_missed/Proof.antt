@@ -11,7 +11,7 @@ use Rattle.steps.proofs.goals.first_missed.Statement.{statement}
 use Rattle.steps.proofs.goals.first_missed.Tie as tie
 use Rattle.steps.proofs.goals.first_missed.Reads as reads
 use Rattle.steps.proofs.goals.first_missed.Lts as lts
-use Rattle.bytes.proofs.bytes.wide.Reads as wide-reads
+use Rattle.parsing.proofs.bytes.wide.Reads as wide-reads
 use Rattle.steps.proofs.goals.met.Reads as met-reads
 
 abbrev invariant-loop : tie.invariant-loop

@@ -8,8 +8,8 @@ use Rattle.steps.proofs.goals.first_value_missed.Statement.{statement}
 use Rattle.steps.proofs.goals.first_value_missed.Tie as tie
 use Rattle.steps.proofs.goals.first_value_missed.Reads as reads
 use Rattle.steps.proofs.goals.first_value_missed.Lts as lts
-use Rattle.bytes.proofs.bytes.two.Reads as two-reads
-use Rattle.bytes.proofs.bytes.wide.Reads as wide-reads
+use Rattle.parsing.proofs.bytes.two.Reads as two-reads
+use Rattle.parsing.proofs.bytes.wide.Reads as wide-reads
 use Rattle.valuing.proofs.states.known.Reads as known-reads
 
 abbrev invariant-loop : tie.invariant-loop

@@ -6,7 +6,7 @@ use Rattle.steps.proofs.onward.chosen.Statement.{statement}
 use Rattle.steps.proofs.onward.chosen.Tie as tie
 use Rattle.steps.proofs.onward.chosen.Reads as reads
 use Rattle.steps.proofs.onward.chosen.Lts as lts
-use Rattle.bytes.proofs.bytes.wide.Reads as wide-reads
+use Rattle.parsing.proofs.bytes.wide.Reads as wide-reads
 use Rattle.finding.proofs.branches.next_item.Reads as next-item-reads
 use Rattle.finding.proofs.branches.next_place.Reads as next-place-reads
 use Rattle.reading.proofs.notes.get.Reads as get-reads

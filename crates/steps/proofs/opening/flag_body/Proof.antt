@@ -9,7 +9,7 @@ use Rattle.steps.proofs.opening.flag_body.Statement.{statement}
 use Rattle.steps.proofs.opening.flag_body.Tie as tie
 use Rattle.steps.proofs.opening.flag_body.Reads as reads
 use Rattle.steps.proofs.opening.flag_body.Lts as lts
-use Rattle.bytes.proofs.bytes.wide.Reads as wide-reads
+use Rattle.parsing.proofs.bytes.wide.Reads as wide-reads
 
 abbrev invariant-loop : tie.invariant-loop
 invariant-loop s p marks flags₀ first end i₀ flags i = FlagsAhead marks s p end (flagged marks (listed s p) flags₀) flags i

@@ -5,7 +5,7 @@ use Rattle.steps.proofs.trying.values_of.Statement.{statement}
 use Rattle.steps.proofs.trying.values_of.Tie as tie
 use Rattle.steps.proofs.trying.values_of.Reads as reads
 use Rattle.steps.proofs.trying.values_of.Lts as lts
-use Rattle.bytes.proofs.values.values_in.Reads as values-in-reads
+use Rattle.parsing.proofs.values.values_in.Reads as values-in-reads
 
 -- src/trying.rt:163:24
 enum_told : tie.Need-enum-told

@@ -1,17 +1,17 @@
 -- Each literal so far leaves its fluent a value; one that leaves none at some literal leaves none at the end.
 use borrow.Author.Rules.{rules}
-use Rattle.bytes.proofs.ValueReaderLaws.{few_enough}
+use Rattle.parsing.proofs.ValueReaderLaws.{few_enough}
 use Rattle.valuing.proofs.LeftLaws.{AgreeAhead, agree_starts, agree_on, agree_none, agree_over}
 use Rattle.valuing.proofs.TwosLaws.{count_there, first_fits, literal_there, second_there, second_fits, next_fits, literal_near, literal_second, literal_fluent}
 use Rattle.valuing.proofs.sets.agrees.Statement.{statement}
 use Rattle.valuing.proofs.sets.agrees.Tie as tie
 use Rattle.valuing.proofs.sets.agrees.Reads as reads
 use Rattle.valuing.proofs.sets.agrees.Lts as lts
-use Rattle.bytes.proofs.bytes.two.Reads as two-reads
-use Rattle.bytes.proofs.bytes.wide.Reads as wide-reads
-use Rattle.bytes.proofs.values.narrow.Reads as narrow_reads
-use Rattle.bytes.proofs.values.some_left.Reads as some-left-reads
-use Rattle.bytes.proofs.values.values_in.Reads as values-in-reads
+use Rattle.parsing.proofs.bytes.two.Reads as two-reads
+use Rattle.parsing.proofs.bytes.wide.Reads as wide-reads
+use Rattle.parsing.proofs.values.narrow.Reads as narrow_reads
+use Rattle.parsing.proofs.values.some_left.Reads as some-left-reads
+use Rattle.parsing.proofs.values.values_in.Reads as values-in-reads
 use Rattle.valuing.proofs.sets.sized.Reads as sized_Reads
 
 abbrev invariant-loop : tie.invariant-loop

@@ -2,16 +2,16 @@
 use borrow.Author.Rules.{rules}
 use lib.ListN.{replicate}
 use Rattle.meaning.specs.Limits.{format}
-use Rattle.bytes.specs.Masks.{every_value}
+use Rattle.parsing.specs.Masks.{every_value}
 use Rattle.valuing.proofs.LeftLaws.{NarrowAhead, allowed_starts, allowed_on, allowed_over}
 use Rattle.valuing.proofs.TwosLaws.{count_there, first_fits, literal_there, second_there, second_fits, next_fits, literal_near, literal_second}
 use Rattle.valuing.proofs.sets.allowed_by.Statement.{statement}
 use Rattle.valuing.proofs.sets.allowed_by.Tie as tie
 use Rattle.valuing.proofs.sets.allowed_by.Reads as reads
 use Rattle.valuing.proofs.sets.allowed_by.Lts as lts
-use Rattle.bytes.proofs.bytes.two.Reads as two-reads
-use Rattle.bytes.proofs.bytes.wide.Reads as wide-reads
-use Rattle.bytes.proofs.values.narrow.Reads as narrow_reads
+use Rattle.parsing.proofs.bytes.two.Reads as two-reads
+use Rattle.parsing.proofs.bytes.wide.Reads as wide-reads
+use Rattle.parsing.proofs.values.narrow.Reads as narrow_reads
 
 abbrev invariant-loop : tie.invariant-loop
 invariant-loop s p allowed₀ left₀ at₀ allowed left at = NarrowAhead s (replicate format.fluents every_value) p allowed at left

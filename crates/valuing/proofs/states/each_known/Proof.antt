@@ -8,8 +8,8 @@ use Rattle.valuing.proofs.states.each_known.Statement.{statement}
 use Rattle.valuing.proofs.states.each_known.Tie as tie
 use Rattle.valuing.proofs.states.each_known.Reads as reads
 use Rattle.valuing.proofs.states.each_known.Lts as lts
-use Rattle.bytes.proofs.bytes.two.Reads as two-reads
-use Rattle.bytes.proofs.bytes.wide.Reads as wide-reads
+use Rattle.parsing.proofs.bytes.two.Reads as two-reads
+use Rattle.parsing.proofs.bytes.wide.Reads as wide-reads
 use Rattle.valuing.proofs.states.known.Reads as known-reads
 
 abbrev invariant-loop : tie.invariant-loop

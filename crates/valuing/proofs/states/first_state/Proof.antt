@@ -1,7 +1,7 @@
 -- The marks below f are those of the first state, by the sets that the facts leave.
 use borrow.Author.Rules.{rules}
 use Rattle.valuing.proofs.FirstMarks.{MarksAhead, marks_start, marks_on, marks_over}
-use Rattle.bytes.proofs.ValueReaderLaws.{few_enough}
+use Rattle.parsing.proofs.ValueReaderLaws.{few_enough}
 use Rattle.reading.specs.Listed.{twos_from}
 use Rattle.meaning.specs.Limits.{format}
 use lib.ListN.{get_or}
@@ -10,7 +10,7 @@ use Rattle.valuing.proofs.states.first_state.Statement.{statement}
 use Rattle.valuing.proofs.states.first_state.Tie as tie
 use Rattle.valuing.proofs.states.first_state.Reads as reads
 use Rattle.valuing.proofs.states.first_state.Lts as lts
-use Rattle.bytes.proofs.values.values_in.Reads as values-in-reads
+use Rattle.parsing.proofs.values.values_in.Reads as values-in-reads
 use Rattle.valuing.proofs.sets.allowed_by.Reads as allowed-by-reads
 use Rattle.valuing.proofs.states.mark_left.Reads as mark-left-reads
 

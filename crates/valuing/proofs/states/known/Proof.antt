@@ -5,7 +5,7 @@ use Rattle.valuing.proofs.states.known.Statement.{statement}
 use Rattle.valuing.proofs.states.known.Tie as tie
 use Rattle.valuing.proofs.states.known.Reads as reads
 use Rattle.valuing.proofs.states.known.Lts as lts
-use Rattle.bytes.proofs.bytes.wide.Reads as wide-reads
+use Rattle.parsing.proofs.bytes.wide.Reads as wide-reads
 
 -- src/states.rt:32:21
 element-copy-out-wide : tie.Need-element-copy-out-wide

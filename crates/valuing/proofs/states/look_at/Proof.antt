@@ -6,8 +6,8 @@ use Rattle.valuing.proofs.states.look_at.Statement.{statement}
 use Rattle.valuing.proofs.states.look_at.Tie as tie
 use Rattle.valuing.proofs.states.look_at.Reads as reads
 use Rattle.valuing.proofs.states.look_at.Lts as lts
-use Rattle.bytes.proofs.bytes.two.Reads as two-reads
-use Rattle.bytes.proofs.bytes.wide.Reads as wide-reads
+use Rattle.parsing.proofs.bytes.two.Reads as two-reads
+use Rattle.parsing.proofs.bytes.wide.Reads as wide-reads
 use Rattle.valuing.proofs.states.known.Reads as known-reads
 
 abbrev invariant-loop : tie.invariant-loop

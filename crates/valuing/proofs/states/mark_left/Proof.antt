@@ -6,7 +6,7 @@ use Rattle.valuing.proofs.states.mark_left.Statement.{statement}
 use Rattle.valuing.proofs.states.mark_left.Tie as tie
 use Rattle.valuing.proofs.states.mark_left.Reads as reads
 use Rattle.valuing.proofs.states.mark_left.Lts as lts
-use Rattle.bytes.proofs.bits.has_bit.Reads as has-bit-reads
+use Rattle.parsing.proofs.bits.has_bit.Reads as has-bit-reads
 
 abbrev invariant-loop : tie.invariant-loop
 invariant-loop m values mark₀ v₀ mark v = LeftAhead m values mark v

@@ -6,7 +6,7 @@ use Rattle.verdicts.proofs.releasing.answer_file.Statement.{statement}
 use Rattle.verdicts.proofs.releasing.answer_file.Tie as tie
 use Rattle.verdicts.proofs.releasing.answer_file.Reads as reads
 use Rattle.verdicts.proofs.releasing.answer_file.Lts as lts
-use Rattle.bytes.proofs.bytes.wide.Reads as wide-reads
+use Rattle.parsing.proofs.bytes.wide.Reads as wide-reads
 use Rattle.verdicts.proofs.releasing.answer_plans.Reads as answer-plans-reads
 use Rattle.verdicts.proofs.releasing.byte_after.Reads as byte-after-reads
 use Rattle.verdicts.proofs.answers.uncounted.Reads as uncounted-reads

@@ -1,6 +1,6 @@
 -- An overlap is refused at its place; else the walk of the request at hand is what the definition says.
 use borrow.Author.Rules.{rules}
-use Rattle.bytes.proofs.LineReaderLaws.{counted_flags}
+use Rattle.parsing.proofs.LineReaderLaws.{counted_flags}
 use Rattle.verdicts.proofs.WalkedLaws.{plain_mode}
 use Rattle.verdicts.proofs.ReleasingLaws.{plan_there, plan_walked, plan_18}
 use Rattle.verdicts.proofs.releasing.answer_plan.Statement.{statement}

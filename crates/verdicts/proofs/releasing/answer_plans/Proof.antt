@@ -1,6 +1,6 @@
 -- What was answered so far and what is left are all the answers; at a plan that fails, its fault and the plans behind it are all that is left.
 use borrow.Author.Rules.{rules}
-use Rattle.bytes.proofs.LineReaderLaws.{counted_flags}
+use Rattle.parsing.proofs.LineReaderLaws.{counted_flags}
 use Prim.Native.Nat.{◌-◌}
 use Rattle.verdicts.proofs.ReleasingLaws.{Answering, answering_starts, answering_hand, answering_unguarded, answering_known, answering_room, answering_small, answering_next, answering_fault, answering_few, answering_sized, answering_stops, answering_done}
 use Rattle.verdicts.proofs.releasing.answer_plans.Statement.{statement}

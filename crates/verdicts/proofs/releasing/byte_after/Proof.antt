@@ -1,6 +1,6 @@
 -- What is left of the plans ends where all do; at a plan that fails nothing is sought.
 use borrow.Author.Rules.{rules}
-use Rattle.bytes.proofs.LineReaderLaws.{counted_flags}
+use Rattle.parsing.proofs.LineReaderLaws.{counted_flags}
 use Rattle.verdicts.proofs.ReleasingLaws.{Seeking, seeking_starts, seeking_next, seeking_stops, seeking_more, seeking_none}
 use Rattle.verdicts.proofs.releasing.byte_after.Statement.{statement}
 use Rattle.verdicts.proofs.releasing.byte_after.Tie as tie

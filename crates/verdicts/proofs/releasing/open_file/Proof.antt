@@ -6,7 +6,7 @@ use Rattle.verdicts.proofs.releasing.open_file.Statement.{statement}
 use Rattle.verdicts.proofs.releasing.open_file.Tie as tie
 use Rattle.verdicts.proofs.releasing.open_file.Reads as reads
 use Rattle.verdicts.proofs.releasing.open_file.Lts as lts
-use Rattle.bytes.proofs.bytes.count_at.Reads as count-at-reads
+use Rattle.parsing.proofs.bytes.count_at.Reads as count-at-reads
 use Rattle.reading.proofs.requests.table_at.Reads as table-at-reads
 
 -- src/releasing.rt:44:9

@@ -6,7 +6,7 @@ use Rattle.verdicts.proofs.walked.walk_values.Statement.{statement}
 use Rattle.verdicts.proofs.walked.walk_values.Tie as tie
 use Rattle.verdicts.proofs.walked.walk_values.Reads as reads
 use Rattle.verdicts.proofs.walked.walk_values.Lts as lts
-use Rattle.bytes.proofs.bytes.wide.Reads as wide-reads
+use Rattle.parsing.proofs.bytes.wide.Reads as wide-reads
 use Rattle.valuing.proofs.states.first_state.Reads as first-state-reads
 use Rattle.verdicts.proofs.walked.walk_from.Reads as walk-from-reads
 

@@ -30,7 +30,7 @@ use Rattle.walking.proofs.walk.+fork_higher_values_walk_walk_branching.Lts-walk 
 use Rattle.walking.proofs.walk.walk_branching.Reads as walk-branching
 use Rattle.walking.proofs.walk.walk_branching.Kinds as walk-branching-kinds
 use Rattle.walking.proofs.walk.+fork_higher_values_walk_walk_branching.Lts-walk_branching as walk-branching-lts
-use Rattle.bytes.proofs.bytes.wide.Reads as wide-reads
+use Rattle.parsing.proofs.bytes.wide.Reads as wide-reads
 use Rattle.reading.proofs.notes.get.Reads as get-reads
 use Rattle.steps.proofs.trying.refused.Reads as refused-reads
 use Rattle.walking.proofs.asked.after.Reads as after-reads

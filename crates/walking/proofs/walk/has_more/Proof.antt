@@ -5,7 +5,7 @@ use Rattle.walking.proofs.walk.has_more.Statement.{statement}
 use Rattle.walking.proofs.walk.has_more.Tie as tie
 use Rattle.walking.proofs.walk.has_more.Reads as reads
 use Rattle.walking.proofs.walk.has_more.Lts as lts
-use Rattle.bytes.proofs.bytes.wide.Reads as wide-reads
+use Rattle.parsing.proofs.bytes.wide.Reads as wide-reads
 use Rattle.walking.proofs.asked.values_of.Reads as values-of-reads
 use Rattle.walking.proofs.tally.goes_on.Reads as goes-on-reads
 

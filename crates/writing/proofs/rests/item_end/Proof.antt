@@ -6,7 +6,7 @@ use Rattle.writing.proofs.rests.item_end.Statement.{statement}
 use Rattle.writing.proofs.rests.item_end.Tie as tie
 use Rattle.writing.proofs.rests.item_end.Reads as reads
 use Rattle.writing.proofs.rests.item_end.Lts as lts
-use Rattle.bytes.proofs.bytes.wide.Reads as wide-reads
+use Rattle.parsing.proofs.bytes.wide.Reads as wide-reads
 use Rattle.finding.proofs.branches.next_item.Reads as next-item-reads
 use Rattle.finding.proofs.branches.next_place.Reads as next-place-reads
 use Rattle.reading.proofs.notes.get.Reads as get-reads

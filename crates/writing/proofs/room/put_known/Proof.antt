@@ -7,7 +7,7 @@ use Rattle.writing.proofs.room.put_known.Statement.{statement}
 use Rattle.writing.proofs.room.put_known.Tie as tie
 use Rattle.writing.proofs.room.put_known.Reads as reads
 use Rattle.writing.proofs.room.put_known.Lts as lts
-use Rattle.bytes.proofs.bytes.wide.Reads as wide-reads
+use Rattle.parsing.proofs.bytes.wide.Reads as wide-reads
 use Rattle.writing.proofs.room.put.Reads as put_reads
 
 abbrev invariant-loop : tie.invariant-loop

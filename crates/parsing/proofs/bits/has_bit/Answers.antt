@@ -1,0 +1,6 @@
+-- The shift is the quotient that the definition has.
+use Rattle.parsing.proofs.BitLaws.{has_is}
+use Rattle.parsing.proofs.bits.has_bit.Goals as goal
+
+pub returns : goal.returns
+returns c = search has_is

@@ -1,0 +1,13 @@
+-- A list of literals of flags, or of values.
+use Rattle.parsing.proofs.LineReaderLaws.{flags_listed, values_listed, counted_values}
+use borrow.Author.Rules.{rules}
+use Rattle.parsing.proofs.forms.literals_at.Goals as goal
+
+pub value_list_at-requires : goal.value_list_at-requires
+value_list_at-requires c = search (rules, counted_values)
+
+pub returns-in-Flags : goal.returns-in-Flags
+returns-in-Flags c = search flags_listed
+
+pub returns-in-Valued : goal.returns-in-Valued
+returns-in-Valued c = search values_listed
