@@ -14,7 +14,7 @@ use Rattle.meaning.specs.Literals.{says_true, says_false, fluent_of}
 use Rattle.meaning.specs.Requests.{Effect, Knowledge, Table, act}
 use Rattle.meaning.specs.Refusals.{nowhere}
 use Rattle.meaning.specs.States.{State, known, can_be_run, state_after, outcome_to}
-use Rattle.meaning.specs.Walk.{in_state, Step}
+use Rattle.meaning.specs.Walk.{in_state, Step, refuses}
 use Rattle.meaning.specs.ByCases.{upward, complete, runs_by_cases, after_cases}
 use Rattle.meaning.specs.Paths.{Ending, first_ran, arrivals, paths_step, paths, paths_item}
 use Rattle.meaning.specs.Approximation.{Pair, Disjoint, true_in, ◌≼◌, executable, Res, Result, failed, state}
@@ -155,7 +155,7 @@ module _ (t : Table) (size : ℕ) (wide : t.fluents ≤ size) (effects_within : 
   cases_cover p a s δ below x h =
       pick_has (λ (y : Step State). Covered size (paths_step (λ _. nowhere) p a y) x) (runs_by_cases t a s) _ _
       (λ runs. ran runs x h)
-      (λ _. stops_cover size _ (Limits.not_executable, p, in_state s, inl refl) x)
+      (λ stuck. stops_cover size (paths_step (λ _. nowhere) p a (refuses Limits.not_executable (in_state s))) (Limits.not_executable, p, in_state s, inl refl) x)
     where
       wide_here : t.fluents ≤ length s
       wide_here = rw below.sized wide

@@ -5,7 +5,7 @@ use native.Mathlib.Omega.{arith}
 use mathlib.Core.Path.{◌≡◌, refl}
 use mathlib.Core.Bool.{false}
 use mathlib.Core.List.{[], ◌∷◌}
-use mathlib.Core.Logic.{◌⊎◌, inl}
+use mathlib.Core.Logic.{◌⊎◌, inl, inr}
 use Rattle.meaning.specs.Tests.{those_of}
 use Rattle.meaning.specs.Limits.{format}
 use Rattle.meaning.specs.Answers.{refusals}
@@ -34,6 +34,7 @@ run_still = ReuseLaws.more_facts format format_room lent_room (with_facts (0 ∷
   where
     one : {l : ℕ} → (l ≡ 0) ⊎ ⊥ → l ≡ 0
     one (inl q) = q
+    one {l = l} (inr none) = elim none [ ]
 
 -- FEWER GOALS: none.
 pub acts_still : IsVerified format lent_room usual (asking (those_of (λ (l : ℕ). false) acts.goals) (those_of (λ (f : ℕ). false) acts.whether) acts)

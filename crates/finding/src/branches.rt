@@ -2,8 +2,8 @@ ghost use Rattle.std.specs.Prelude.{◌≡◌, ◌+◌, ◌<◌, length};
 ghost use Rattle.reading.specs.Listed.{LiteralsHere, span};
 ghost use Rattle.finding.specs.Branches.{sequence_place, no_item, place_after, item_after, BranchHere};
 
-use parsing::bytes::wide;
 use meaning::Form;
+use parsing::bytes::wide;
 use reading::notes;
 use reading::notes::{Notes, get};
 

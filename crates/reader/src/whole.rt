@@ -9,10 +9,10 @@ ghost use Rattle.reading.specs.Requested.{Starts, request_noted, guarded_noted};
 ghost use Rattle.reader.specs.Sections.{sections_as, sections_read, actions_place, up_to, guards_first};
 
 use super::{Reader, new};
+use meaning::Form;
 use parsing::bytes::wide;
 use parsing::limits;
 use parsing::lists::{Kind, Passed, list_at};
-use meaning::Form;
 use reading::notes;
 use reading::notes::{Notes, put};
 use reading::requests::{request_at, table_at};

@@ -7,11 +7,11 @@ ghost use Rattle.reading.specs.Planned.{number_after, branch_noted, item_noted, 
 
 use super::notes;
 use super::notes::{Notes, put};
+use meaning::Form;
 use parsing::bytes::{Read, byte_at, count_at, two_bytes_at};
 use parsing::limits;
 use parsing::lists::Passed;
 use parsing::table_lines::body_at;
-use meaning::Form;
 
 // What follows an item: the item met next, or where it is the last of its sequence what stands around the sequence.
 fn after(left: usize, met: usize, up: usize) -> usize

@@ -10,12 +10,12 @@ use super::notes;
 use super::notes::{Notes, put};
 use super::plan::plan_at;
 use super::sections::three_sections;
+use meaning::Form;
 use parsing::bytes::{Read, count_at};
 use parsing::forms::literals_at;
 use parsing::limits;
 use parsing::lists::{Kind, Passed, list_at};
 use parsing::values::value_counts_at;
-use meaning::Form;
 
 // Sections 2 to 5, over n fluents and m actions.
 fn facts_at(form: Form, n: usize, m: usize, s: &[u8], p: usize, t: &mut Notes) -> Passed

@@ -7,11 +7,11 @@ ghost use Rattle.reading.specs.Noted.{section_of, line_at, line_read, line_noted
 
 use super::notes;
 use super::notes::{Notes, append_line, note_pair, put};
+use meaning::Form;
 use parsing::bytes::{Read, wide};
 use parsing::limits;
 use parsing::lists::Passed;
 use parsing::table_lines::{effect_at, executability_at, knowledge_at};
-use meaning::Form;
 
 // Sections 3, 4 and 5.
 #[derive(Clone, Copy)]
