@@ -1,5 +1,4 @@
-// An input and a position in it, held by one struct. Each function over it is proved by a proof by hand through its MIR, and leaves
-// the work to a covered function on the slice and the number.
+// An input and a position in it, held by one struct. Each function over it leaves the work to a function on the slice and the number.
 
 #![tactic(auto)]
 
