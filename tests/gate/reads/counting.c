@@ -8,19 +8,14 @@
 #include <stdio.h>
 #include <stdlib.h>
 
-/* As the library's sources pass a slice among themselves. */
-struct slice {
-    const uint8_t *start;
-    uint64_t length;
-};
-
 enum { STATE_MADE = 256, WALK_BEGINS = 257 };
 enum { NO_ACTION = -1 };
 
 #define REQUEST_MOST 16384
 
-uint8_t counted_read(const struct slice *slice, uint64_t place);
-uint64_t counted_note(const struct slice *slice, uint64_t what);
+/* The library's sources pass a slice among themselves as a pointer and a length. */
+uint8_t counted_read(const uint8_t *start, uint64_t length, uint64_t place);
+uint64_t counted_note(const uint8_t *start, uint64_t length, uint64_t what);
 uint64_t __real_glintstring_judge(const uint8_t *request, size_t request_length, uint8_t *state, size_t state_length, uint32_t budget);
 uint64_t __wrap_glintstring_judge(const uint8_t *request, size_t request_length, uint8_t *state, size_t state_length, uint32_t budget);
 
