@@ -1,6 +1,6 @@
 -- At each turn what the whole list of citations gives is what those left give.
 use mathlib.Core.Path.{refl}
-use Rattle.deriving.proofs.DerivationLaws.{citations_done, citations_fault, citations_next}
+use Rattle.derivation.proofs.DerivationLaws.{citations_done, citations_fault, citations_next}
 use Rattle.derivation.proofs.derivations.citations_from.Goals as goal
 
 pub loop-left-init : goal.loop-left-init

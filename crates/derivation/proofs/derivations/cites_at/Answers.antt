@@ -1,5 +1,5 @@
 -- The count, then the citations: the first fault is the line's.
-use Rattle.deriving.proofs.DerivationLaws.{cites_whole, cites_fault}
+use Rattle.derivation.proofs.DerivationLaws.{cites_whole, cites_fault}
 use Rattle.derivation.proofs.derivations.cites_at.Goals as goal
 
 pub returns-in-Value : goal.returns-in-Value

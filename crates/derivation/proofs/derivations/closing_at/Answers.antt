@@ -1,5 +1,5 @@
 -- The plain layout has nothing there; the closing one a count of any value and as many line numbers.
-use Rattle.deriving.proofs.DerivationLaws.{closing_none, closing_numbers, closing_count}
+use Rattle.derivation.proofs.DerivationLaws.{closing_none, closing_numbers, closing_count}
 use Rattle.derivation.proofs.derivations.closing_at.Goals as goal
 
 pub returns-in-Plain : goal.returns-in-Plain

@@ -1,5 +1,5 @@
 -- The list and the rule byte, or the rule byte and the conclusion, by the layout: the first fault is the line's.
-use Rattle.deriving.proofs.DerivationLaws.{ruled_whole, ruled_fault, listed_fault, rule_whole, rule_fault}
+use Rattle.derivation.proofs.DerivationLaws.{ruled_whole, ruled_fault, listed_fault, rule_whole, rule_fault}
 use Rattle.derivation.proofs.derivations.concluded_at.Goals as goal
 
 pub returns-in-Value : goal.returns-in-Value

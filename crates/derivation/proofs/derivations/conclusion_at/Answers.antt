@@ -1,5 +1,5 @@
 -- A fluent or a list, by the rule.
-use Rattle.deriving.proofs.DerivationLaws.{fluent_whole, fluent_fault, list_whole}
+use Rattle.derivation.proofs.DerivationLaws.{fluent_whole, fluent_fault, list_whole}
 use Rattle.derivation.proofs.derivations.conclusion_at.Goals as goal
 
 pub returns-in-Value : goal.returns-in-Value

@@ -1,5 +1,5 @@
 -- The conclusion and the rule byte, then the citations: the first fault is the line's.
-use Rattle.deriving.proofs.DerivationLaws.{end_whole, end_fault}
+use Rattle.derivation.proofs.DerivationLaws.{end_whole, end_fault}
 use Rattle.derivation.proofs.derivations.end_at.Goals as goal
 
 pub returns-in-To : goal.returns-in-To

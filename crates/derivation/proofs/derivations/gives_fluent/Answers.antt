@@ -1,5 +1,5 @@
 -- The five rules one after another.
-use Rattle.deriving.proofs.DerivationLaws.{fluent_by_7, fluent_by_8, fluent_by_10, fluent_by_11, fluent_by_12}
+use Rattle.derivation.proofs.DerivationLaws.{fluent_by_7, fluent_by_8, fluent_by_10, fluent_by_11, fluent_by_12}
 use Rattle.derivation.proofs.derivations.gives_fluent.Goals as goal
 
 pub returns-then-rule-eq-LOOK_RULE : goal.returns-then-rule-eq-LOOK_RULE

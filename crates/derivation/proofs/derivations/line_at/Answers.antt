@@ -1,5 +1,5 @@
 -- The list X, then the rest of the line: the first fault is the line's. The plan ends as far after X as it has bytes.
-use Rattle.deriving.proofs.DerivationLaws.{line_whole, line_fault}
+use Rattle.derivation.proofs.DerivationLaws.{line_whole, line_fault}
 use Rattle.derivation.proofs.derivations.line_at.Goals as goal
 
 pub returns-in-To : goal.returns-in-To

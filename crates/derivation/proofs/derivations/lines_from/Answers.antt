@@ -1,6 +1,6 @@
 -- At each turn what all lines give is what the lines left give, and the places noted are those of the lines read and of the ends of their plans.
 use Rattle.meaning.specs.Derivations.{line_at}
-use Rattle.deriving.proofs.DerivationLaws.{places_start, places_done, places_fault, places_next, line_fits, end_fits}
+use Rattle.derivation.proofs.DerivationLaws.{places_start, places_done, places_fault, places_next, line_fits, end_fits}
 use borrow.Author.Rules.{rules}
 use Rattle.derivation.proofs.derivations.lines_from.Goals as goal
 

@@ -5,7 +5,7 @@ use Rattle.meaning.specs.Limits.{format}
 use Rattle.meaning.specs.Reading.{repeated}
 use Rattle.meaning.specs.Derivations.{line_at}
 use Rattle.reading.specs.Noted.{noting}
-use Rattle.deriving.specs.DerivationRead.{places_noted}
+use Rattle.derivation.specs.DerivationRead.{places_noted}
 use Rattle.derivation.proofs.derivations.lines_from.Given as goal
 
 abbrev pub invariant-loop-k : goal.invariant-loop-k

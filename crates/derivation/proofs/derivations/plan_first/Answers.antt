@@ -1,5 +1,5 @@
 -- The plan, then the rest of the line: the first fault is the line's.
-use Rattle.deriving.proofs.DerivationLaws.{plan_whole, plan_then_fault, plan_fault}
+use Rattle.derivation.proofs.DerivationLaws.{plan_whole, plan_then_fault, plan_fault}
 use Rattle.parsing.proofs.LineReaderLaws.{counted_flags}
 use Rattle.derivation.proofs.derivations.plan_first.Goals as goal
 

@@ -1,6 +1,6 @@
 -- Too long, without its count or with one outside, with a faulty line, with a fault in what closes it, with bytes after that, or whole: a law for each
 -- way.
-use Rattle.deriving.proofs.DerivationLaws.{derivation_long, derivation_fault, derivation_none, derivation_many, lines_fault, lines_fit, closing_fault, closing_before, closing_whole}
+use Rattle.derivation.proofs.DerivationLaws.{derivation_long, derivation_fault, derivation_none, derivation_many, lines_fault, lines_fit, closing_fault, closing_before, closing_whole}
 use borrow.Author.Rules.{rules}
 use Rattle.derivation.proofs.derivations.read_derivation.Goals as goal
 

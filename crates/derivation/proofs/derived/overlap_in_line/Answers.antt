@@ -1,6 +1,6 @@
 -- X is a list, so the plan's count stands after it. The plan is read there into the notes, which then hold it, and the search over the notes
 -- finds the first overlap of just that plan. A plan that was read before is read again without a fault.
-use Rattle.deriving.proofs.DerivedLaws.{line_held, line_sought, line_read}
+use Rattle.derivation.proofs.DerivedLaws.{line_held, line_sought, line_read}
 use borrow.Author.Rules.{rules}
 use Rattle.parsing.proofs.LineReaderLaws.{counted_flags}
 use Rattle.derivation.proofs.derived.overlap_in_line.Goals as goal

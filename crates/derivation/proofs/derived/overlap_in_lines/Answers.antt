@@ -1,6 +1,6 @@
 -- Whatever lines stand where the places say, the first overlap in all of them is the first in those from line k on: those before line k have
 -- none.
-use Rattle.deriving.proofs.DerivedLaws.{sought_start, sought_done, sought_next, sought_at, line_list}
+use Rattle.derivation.proofs.DerivedLaws.{sought_start, sought_done, sought_next, sought_at, line_list}
 use Rattle.derivation.proofs.derived.overlap_in_lines.Goals as goal
 
 pub loop-k-init : goal.loop-k-init

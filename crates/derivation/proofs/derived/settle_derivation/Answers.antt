@@ -1,6 +1,6 @@
 -- Reading left the place of line k in slot k, so the lines that were read are those that are searched; their number stands in the first two
 -- bytes, and is within its limit. The places are not written again.
-use Rattle.deriving.proofs.DerivedLaws.{count_first, count_second, derivation_short, lines_few, lines_stand, lines_past_18, lines_at_18, derived_fault}
+use Rattle.derivation.proofs.DerivedLaws.{count_first, count_second, derivation_short, lines_few, lines_stand, lines_past_18, lines_at_18, derived_fault}
 use Rattle.derivation.proofs.derived.settle_derivation.Goals as goal
 
 pub bounds-s-0 : goal.bounds-s-0
