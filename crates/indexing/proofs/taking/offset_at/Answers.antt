@@ -3,4 +3,6 @@ use Rattle.indexing.proofs.TakeLaws.{offset_read}
 use Rattle.indexing.proofs.taking.offset_at.Goals as goal
 
 pub returns : goal.returns
-returns c = offset_read c.args.index.now c.shared_slice_known-3-1.given _ _ c.two.ensures
+returns c =
+    let both = offset_read c.args.index.now c.shared_slice_known-3-1.given _ _ c.two.ensures in
+    record { value = both.0; upper_bound = both.1 }

@@ -46,12 +46,9 @@ pub overflow_add-runs : goal.overflow_add-runs
 overflow_add-runs c = search runs_sum
 
 pub loop-a-preserved : goal.loop-a-preserved
-loop-a-preserved c = let second = c in
-    let first = second.before.before in
-    let counted = first.before.before in
-    let turn = counted.before.before in
-    action_taken _ _ _ _ _ _ _ _ _ turn.before.loop.invariant turn.loop-test.true _ first.take-lines.ensures.0 _ second.wide3.ensures _ _ _ _
-    counted.wide2.ensures c.take_lines-q.ensures.value first.take-lines.ensures.1 c.take_lines-q.ensures.t_after
+loop-a-preserved c =
+    action_taken _ _ _ _ _ _ _ _ _ c.loop-a.invariant c.loop-a-test.true _ c.take_lines-middle.ensures.value _ c.wide-d.ensures _ _ _ _
+    c.wide-c.ensures c.take_lines-q.ensures.value c.take_lines-middle.ensures.t_after c.take_lines-q.ensures.t_after
 
 pub returns : goal.returns
 returns c = search indexing_done
