@@ -21,25 +21,13 @@ pub plan_at-requires-clause-counted : goal.plan_at-requires-clause-counted
 plan_at-requires-clause-counted c = search counted_flags
 
 pub sequence_of-given-requires : goal.sequence_of-given-requires
-sequence_of-given-requires c = c.requires.1.1.0.stands.X.here
+sequence_of-given-requires c = c.requires.some_line.stands.X.here
 
 pub some_branch-requires : goal.some_branch-requires
-some_branch-requires c = let value = c.enum_told.given.1 in
-    let again = c in
-    let tested = again.before.before.before.before in
-    let counted = tested.before.before.before in
-    let at = counted.before.sequence-of.ensures in
-    let count = counted.count_of.ensures in
-    let some = tested.before.before.if3.false in
-    let byte = tested.if4.true in
-    let long = again.before.before.sized.ensures in
-    let read = again.plan-at.ensures in
-    let pre = counted.before.before.before.before.before.before.before.requires in
-    let place = c.sequence-of2.ensures in
-    (branching_first _ _ _ _ _ at _ count some byte pre.0 pre.1.0 _ _ _ read long _ _ value pre.1.1.1, some_plan _ _ _ place pre.1.1.0)
+some_branch-requires c = let value = c.in-Value.is in let again = c in let tested = again.before.before.before.before in let counted = tested.before.before.before in let at = counted.before.sequence-of.ensures in let count = counted.count_of.ensures in let some = tested.before.before.if3.false in let byte = tested.if4.true in let long = again.before.before.sized.ensures in let read = again.plan-at.ensures in let pre = counted.before.before.before.before.before.before.before.requires in let place = c.sequence_of-given.ensures in record { some_branched = branching_first _ _ _ _ _ at _ count some byte pre.0 pre.1.0 _ _ _ read long _ _ value pre.1.1.1; some_plan = some_plan _ _ _ place pre.1.1.0 }
 
 pub returns-in-Value : goal.returns-in-Value
-returns-in-Value c = let value = c.enum_told.given.1 in
+returns-in-Value c = let value = c.in-Value.is in
     let again = c in
     let tested = again.before.before.before.before in
     let counted = tested.before.before.before in
@@ -54,7 +42,7 @@ returns-in-Value c = let value = c.enum_told.given.1 in
     let also = same.if2.true in
     let starts = same.before.before.before.same_lists.ensures in
     let yes = same.before.before.if1.true in
-    let told = c.state-of.ensures in
+    let told = c.state_of-held.ensures in
     let place = c.sequence-of2.ensures in
     let taken = c.some_branch.ensures in
     let pre = same.before.before.before.before.before.requires in
