@@ -8,8 +8,14 @@ overflow_sub-last c = search line_there
 pub cite-requires-clause-cited : goal.cite-requires-clause-cited
 cite-requires-clause-cited c = search none_held
 
-pub cite-requires-2 : goal.cite-requires-2
-cite-requires-2 c = (search still_held, (search one_more_fits, search last_near))
+pub cite-requires-2-clause-cited : goal.cite-requires-2-clause-cited
+cite-requires-2-clause-cited c = search still_held
+
+pub cite-requires-2-clause-cites_bound : goal.cite-requires-2-clause-cites_bound
+cite-requires-2-clause-cites_bound c = search one_more_fits
+
+pub cite-requires-2-clause-line_bound : goal.cite-requires-2-clause-line_bound
+cite-requires-2-clause-line_bound c = search last_near
 
 pub put_goals-requires-clause-cited : goal.put_goals-requires-clause-cited
 put_goals-requires-clause-cited c = search still_held

@@ -27,8 +27,11 @@ put_answer-requires-clause-place_bound c = search answering_small
 pub loop-k-preserved : goal.loop-k-preserved
 loop-k-preserved c = search answering_next
 
-pub put_answer-requires-in-Fault : goal.put_answer-requires-in-Fault
-put_answer-requires-in-Fault c = (search answering_room, search answering_fault)
+pub put_answer-requires-in-Fault-clause-k_in_bounds : goal.put_answer-requires-in-Fault-clause-k_in_bounds
+put_answer-requires-in-Fault-clause-k_in_bounds c = search answering_room
+
+pub put_answer-requires-in-Fault-clause-place_bound : goal.put_answer-requires-in-Fault-clause-place_bound
+put_answer-requires-in-Fault-clause-place_bound c = search answering_fault
 
 pub leave_unreached-requires-clause-k_le_plans : goal.leave_unreached-requires-clause-k_le_plans
 leave_unreached-requires-clause-k_le_plans c = search answering_few
