@@ -21,44 +21,17 @@ pub plan_at-requires-clause-counted : goal.plan_at-requires-clause-counted
 plan_at-requires-clause-counted c = search counted_flags
 
 pub sequence_of-given-requires : goal.sequence_of-given-requires
-sequence_of-given-requires c = c.requires.1.1.0.stands.X.here
+sequence_of-given-requires c = c.requires.some_line.stands.X.here
 
-pub some_branch-requires : goal.some_branch-requires
-some_branch-requires c = let value = c.enum_told.given.1 in
-    let again = c in
-    let tested = again.before.before.before.before in
-    let counted = tested.before.before.before in
-    let at = counted.before.sequence-of.ensures in
-    let count = counted.count_of.ensures in
-    let some = tested.before.before.if3.false in
-    let byte = tested.if4.true in
-    let long = again.before.before.sized.ensures in
-    let read = again.plan-at.ensures in
-    let pre = counted.before.before.before.before.before.before.before.requires in
-    let place = c.sequence-of2.ensures in
-    (branching_first _ _ _ _ _ at _ count some byte pre.0 pre.1.0 _ _ _ read long _ _ value pre.1.1.1, some_plan _ _ _ place pre.1.1.0)
+pub some_branch-requires-clause-some_branched : goal.some_branch-requires-clause-some_branched
+some_branch-requires-clause-some_branched c = branching_first _ _ _ _ _ c.sequence_of-plan.ensures _ c.count_of-count.ensures c.if-count-eq0.false c.if-d-first.true c.requires.n_le_fluents c.requires.m_le_actions _ _ _ c.plan_at.ensures c.sized.ensures _ _ c.in-Value.is c.requires.some_read
+
+pub some_branch-requires-clause-some_plan : goal.some_branch-requires-clause-some_plan
+some_branch-requires-clause-some_plan c = some_plan _ _ _ c.sequence_of-given.ensures c.requires.some_line
 
 pub returns-in-Value : goal.returns-in-Value
-returns-in-Value c = let value = c.enum_told.given.1 in
-    let again = c in
-    let tested = again.before.before.before.before in
-    let counted = tested.before.before.before in
-    let at = counted.before.sequence-of.ensures in
-    let count = counted.count_of.ensures in
-    let some = tested.before.before.if3.false in
-    let byte = tested.if4.true in
-    let long = again.before.before.sized.ensures in
-    let read = again.plan-at.ensures in
-    let same = counted.before.before in
-    let ends = same.before.same-conclusions.ensures in
-    let also = same.if2.true in
-    let starts = same.before.before.before.same_lists.ensures in
-    let yes = same.before.before.if1.true in
-    let told = c.state-of.ensures in
-    let place = c.sequence-of2.ensures in
-    let taken = c.some_branch.ensures in
-    let pre = same.before.before.before.before.before.requires in
-    rule_by_branch _ _ _ _ _ at _ count some byte pre.0 pre.1.0 _ _ _ read long _ _ value _ _ _ starts yes ends also _ told _ place _ taken
+returns-in-Value c =
+    rule_by_branch _ _ _ _ _ c.sequence_of-plan.ensures _ c.count_of-count.ensures c.if-count-eq0.false c.if-d-first.true c.requires.n_le_fluents c.requires.m_le_actions _ _ _ c.plan_at.ensures c.sized.ensures _ _ c.in-Value.is _ _ _ c.same_lists-starts.ensures c.if-starts.true c.same_conclusions-ends.ensures c.if-ends.true _ c.state_of-held.ensures _ c.sequence_of-given.ensures _ c.some_branch.ensures
 
 pub returns-in-Fault : goal.returns-in-Fault
 returns-in-Fault c = search read_again

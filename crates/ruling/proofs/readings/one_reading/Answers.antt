@@ -34,8 +34,7 @@ pub spot_of-cited-requires-clause-k_lt_lines : goal.spot_of-cited-requires-claus
 spot_of-cited-requires-clause-k_lt_lines c = search number_below
 
 pub says_reading-says-requires : goal.says_reading-says-requires
-says_reading-says-requires c = let cited = number_line _ _ _ _ _ c.requires.i_lt_lines.1 _ c.spot_of_lem.ensures _ c.wide-count.ensures _ c.if-count-k.false _ c.two-number.ensures _ c.spot_of-cited.ensures in
-    (search rules, (cited, (search line_there, search some_follows)))
+says_reading-says-requires c = let cited = number_line _ _ _ _ _ c.requires.some_rest _ c.spot_of-own.ensures _ c.wide-count.ensures _ c.if-count-k.false _ c.two-number.ensures _ c.spot_of-cited.ensures in record { marked = search rules; stands_some = cited; stands_some_2 = search line_there; some_follows = search some_follows }
 
 pub returns-then-says : goal.returns-then-says
 returns-then-says c = search (reading_said, said_of)

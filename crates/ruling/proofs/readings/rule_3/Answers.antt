@@ -37,14 +37,19 @@ pub first_unknown-f-requires-clause-marked_as : goal.first_unknown-f-requires-cl
 first_unknown-f-requires-clause-marked_as c = search marked_as
 
 pub each_reading-requires : goal.each_reading-requires
-each_reading-requires c = let held = c.requires in
-    (search rules, (search (action_small, held.1.0), (search marked_as, (search rules, search (some_rest, held.1.0, held.1.1.0, held.1.1.1.1.0, held.1.1.1.1.1)))))
+each_reading-requires c = record {
+  at_hand = search rules;
+  a_lt_actions = search (action_small, c.requires.some_line);
+  marked = search marked_as;
+  i_lt_lines = search rules;
+  some_rest = search (some_rest, c.requires.some_line, c.requires.some_lines, c.requires.l_value, c.requires.cited_below);
+}
 
 pub returns-in-To : goal.returns-in-To
-returns-in-To c = all_read _ _ _ _ c.sequence_of-plan.ensures c.count_of-count.ensures c.if-count-eq0.false c.if-d-first.false _ _ _ c.wide-a.ensures _ _ c.is_sensing-sensing.ensures _ c.state_of-marks.ensures _ c.can_be_run-runs.ensures c.if-sensing.true c.if-runs.true _ c.first_unknown-f.ensures _ c.wide-cited.ensures _ c.requires.some_line.1.1.1.0 _ c.each_reading.ensures _ (search rules)
+returns-in-To c = all_read _ _ _ _ c.sequence_of-plan.ensures c.count_of-count.ensures c.if-count-eq0.false c.if-d-first.false _ _ _ c.wide-a.ensures _ _ c.is_sensing-sensing.ensures _ c.state_of-marks.ensures _ c.can_be_run-runs.ensures c.if-sensing.true c.if-runs.true _ c.first_unknown-f.ensures _ c.wide-cited.ensures _ c.requires.l_value _ c.each_reading.ensures _ (search rules)
 
 pub returns-in-Fails : goal.returns-in-Fails
-returns-in-Fails c = not_read _ _ _ _ c.sequence_of-plan.ensures c.count_of-count.ensures c.if-count-eq0.false c.if-d-first.false _ _ _ c.wide-a.ensures _ _ c.is_sensing-sensing.ensures _ c.state_of-marks.ensures _ c.can_be_run-runs.ensures c.if-sensing.true c.if-runs.true _ c.first_unknown-f.ensures _ c.wide-cited.ensures _ c.requires.some_line.1.1.1.0 _ c.each_reading.ensures (search rules)
+returns-in-Fails c = not_read _ _ _ _ c.sequence_of-plan.ensures c.count_of-count.ensures c.if-count-eq0.false c.if-d-first.false _ _ _ c.wide-a.ensures _ _ c.is_sensing-sensing.ensures _ c.state_of-marks.ensures _ c.can_be_run-runs.ensures c.if-sensing.true c.if-runs.true _ c.first_unknown-f.ensures _ c.wide-cited.ensures _ c.requires.l_value _ c.each_reading.ensures (search rules)
 
 pub returns-then-sensing : goal.returns-then-sensing
 returns-then-sensing c = search not_run

@@ -4,22 +4,6 @@ use Rattle.ruling.proofs.ReadingRuleLaws.{cited_counted, cited_fits, cited_ends,
 use borrow.Author.Rules.{rules}
 use Rattle.ruling.proofs.readings.says_reading.Goals as goal
 
--- UNMATCHED slice-bounds-same-part-start
--- part-same-part-start : tie.Need-slice-bounds-same-part-start
--- part-same-part-start c = search cited_ends
-
--- UNMATCHED slice-bounds-same-part-end
--- part-same-part-end : tie.Need-slice-bounds-same-part-end
--- part-same-part-end c = search rules
-
--- UNMATCHED slice-bounds-same-part-start-2
--- part-same-part-start-2 : tie.Need-slice-bounds-same-part-start-2
--- part-same-part-start-2 c = search rules
-
--- UNMATCHED slice-bounds-same-part-end-2
--- part-same-part-end-2 : tie.Need-slice-bounds-same-part-end-2
--- part-same-part-end-2 c = search rules
-
 pub count_of-count-requires : goal.count_of-count-requires
 count_of-count-requires c = search cited_counted
 
@@ -40,3 +24,6 @@ returns-then-starts c = search items_other
 
 pub returns : goal.returns
 returns c = search starts_other
+
+pub slice_bounds-same_part-start : goal.slice_bounds-same_part-start
+slice_bounds-same_part-start c = search cited_ends
