@@ -61,12 +61,7 @@ pub fn glintstring_judge_by_cases(request: &[u8], state: &mut [u8], budget: u32)
 }
 
 // The indexed call (FORMAT 23.10), with its answer in one number. It may be called with anything.
-pub fn glintstring_judge_indexed(
-    request: &[u8],
-    index: &[u8],
-    state: &mut [u8],
-    budget: u32,
-) -> u64
+pub fn glintstring_judge_indexed(request: &[u8], index: &[u8], state: &mut [u8], budget: u32) -> u64
     ensures value { result ≡ packed (judge_indexed format request.now index.now state.old budget).answer }
     ensures state_after { state.new ≡ (judge_indexed format request.now index.now state.old budget).state }
 {
@@ -99,12 +94,7 @@ pub fn glintstring_derive(request: &[u8], out: &mut [u8], budget: u32) -> u64
 }
 
 // The walk call, with its answer in one number and the line in another, which is written whatever the answer is. It may be called with anything.
-pub fn glintstring_judge_line(
-    request: &[u8],
-    state: &mut [u8],
-    budget: u32,
-    line: &mut u32,
-) -> u64
+pub fn glintstring_judge_line(request: &[u8], state: &mut [u8], budget: u32, line: &mut u32) -> u64
     ensures value { result ≡ packed (judge format request.now state.old budget).answer }
     ensures state_after { state.new ≡ (judge format request.now state.old budget).state }
     ensures line_after { line.new ≡ Asking.line format request.now state.old budget }
