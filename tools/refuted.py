@@ -10,9 +10,9 @@ import re
 import sys
 
 log = sys.argv[1] if len(sys.argv) > 1 else "build/rt-ci.log"
-LINE = re.compile(r"rt: must-fail (\w+)/([\w.-]+\.edit): refused, as it must be: \S+: error: `([^`]+)`: ")
+LINE = re.compile(r"rt: must-fail (\w+)/([\w.-]+\.edit): refused, as it must be: (?:\S+: error: `([^`]+)`: |note: .* \(`([^`]+)`\)$)")
 with open(log, encoding="utf-8", errors="replace") as it:
-    found = {f"crates/{crate}/must-fail/{edit}": name for crate, edit, name in LINE.findall(it.read())}
+    found = {f"crates/{at[1]}/must-fail/{at[2]}": at[3] or at[4] for at in map(LINE.match, it) if at}
 for path, name in sorted(found.items()):
     try:
         with open(path, encoding="utf-8") as it:
