@@ -5,25 +5,25 @@ use std::hint::black_box;
 use crate::model::Request;
 use crate::reader::FLUENT_LIMIT;
 use crate::walk::Verdict;
-use crate::{literals, reader, section, sequence, settle, times, walk, Notes, Slice, FILE_A, FLUENTS, SLOTS};
+use crate::{literals, reader, section, sequence, settle, times, walk, Notes, FILE_A, FLUENTS, SLOTS};
 
 const BUDGET: u32 = 100_000;
 
 extern "C" {
-    fn proved_settle(s: &Slice, t: &mut Notes) -> usize;
-    fn proved_judge(request: &Slice, lent: &Slice, budget: u32) -> u64;
+    fn proved_settle(s: *const u8, length: usize, t: &mut Notes) -> usize;
+    fn proved_judge(request: *const u8, request_length: usize, lent: *mut u8, lent_length: usize, budget: u32) -> u64;
 }
 
 /// Number, place and count, and the lent state afterwards.
 type Answer = (u64, u64, u64, [u8; FLUENT_LIMIT]);
 
 fn proved_open(bytes: &[u8]) -> usize {
-    unsafe { proved_settle(&Slice(bytes.as_ptr(), bytes.len()), &mut [0; SLOTS]) }
+    unsafe { proved_settle(bytes.as_ptr(), bytes.len(), &mut [0; SLOTS]) }
 }
 
 fn proved(bytes: &[u8]) -> Answer {
     let mut lent = [9; FLUENT_LIMIT];
-    let packed = unsafe { proved_judge(&Slice(bytes.as_ptr(), bytes.len()), &Slice(lent.as_mut_ptr(), lent.len()), BUDGET) };
+    let packed = unsafe { proved_judge(bytes.as_ptr(), bytes.len(), lent.as_mut_ptr(), lent.len(), BUDGET) };
     (packed % 256, packed >> 16 & 65535, packed >> 32, lent)
 }
 

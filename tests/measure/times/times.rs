@@ -42,17 +42,14 @@ const EFFECTS: usize = PLAN + 2;
 const SLOTS: usize = PLAN + 8 + ACTION_LIMIT * (FLUENT_LIMIT / 16);
 type Notes = [u16; SLOTS];
 
-/// A slice as compiled Rattle takes it: where it starts, and its length.
-#[repr(C)]
-struct Slice(*const u8, usize);
-
+// Compiled Rattle takes a slice as a pointer and then a length.
 extern "C" {
-    fn proved_read(s: &Slice, t: &mut Notes) -> usize;
+    fn proved_read(s: *const u8, length: usize, t: &mut Notes) -> usize;
 }
 
 /// The place after the request, or 65,536 times the fault's number plus its place.
 fn proved(bytes: &[u8], notes: &mut Notes) -> usize {
-    unsafe { proved_read(&Slice(bytes.as_ptr(), bytes.len()), notes) }
+    unsafe { proved_read(bytes.as_ptr(), bytes.len(), notes) }
 }
 
 /// The same of the independent reader, which reads all bytes or finds a fault.
