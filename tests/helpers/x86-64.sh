@@ -7,7 +7,7 @@ emulator=()
 if [ "$(uname -m)" != x86_64 ]; then
     compiler=(x86_64-linux-gnu-gcc -static)
     compiler_package=gcc-x86-64-linux-gnu
-    emulator=("$(dirname "$(rt doc)")/toolchain/bin/qemu-x86_64" -cpu qemu64)
+    emulator=("$(dirname "$(rt doc)")/toolchain/bin/qemu-x86_64" -cpu Nehalem)
 fi
 
 # Whether a command is there, by apt-get if need be.
