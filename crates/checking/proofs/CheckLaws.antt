@@ -17,9 +17,9 @@ use Rattle.parsing.specs.Read.{passed}
 use Rattle.parsing.proofs.ListLaws.{passed_to, passed_stop}
 use Rattle.reading.specs.Noted.{noting, outcome}
 use Rattle.reading.proofs.SectionLaws.{noting_fault}
-use Rattle.deriving.specs.DerivationRead.{derivation_noted, settled_derivation, places_slots}
-use Rattle.deriving.specs.Derived.{LinesHere}
-use Rattle.deriving.proofs.DerivedLaws.{check_begins}
+use Rattle.derivation.specs.DerivationRead.{derivation_noted, settled_derivation, places_slots}
+use Rattle.derivation.specs.Derived.{LinesHere}
+use Rattle.derivation.proofs.DerivedLaws.{check_begins}
 use Rattle.steps.specs.Held.{table_in, request_in}
 use Rattle.steps.specs.AtHand.{AtHand}
 use Rattle.comparing.specs.Stands.{LinesStand, SomeDerived}

@@ -23,7 +23,7 @@ use Rattle.parsing.specs.Read.{passed}
 use Rattle.reading.specs.Listed.{bytes_from, listed, ListHere}
 use Rattle.reading.proofs.MarkLaws.{bytes_next, bytes_done}
 use Rattle.reading.specs.Noted.{goals_slot}
-use Rattle.deriving.specs.DerivationRead.{plan_ends_slot, lines_end}
+use Rattle.derivation.specs.DerivationRead.{plan_ends_slot, lines_end}
 use Rattle.finding.specs.Branches.{sequence_place}
 use Rattle.finding.proofs.PlanHere.{listed_length}
 use Rattle.steps.specs.Held.{request_in}

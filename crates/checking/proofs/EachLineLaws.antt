@@ -19,8 +19,8 @@ use Rattle.meaning.specs.Literals.{among}
 use Rattle.meaning.specs.Requests.{Table}
 use Rattle.meaning.specs.Derivations.{Line, rule_1, rule_2, rule_3, rule_4, rule_5, rule_6, rule_7, rule_8, of_one, of_two, given_by, for_lists, follows, citations_taken, citations_of, a_rule, cited_by}
 use Rattle.meaning.proofs.TestLaws.{by-test, clash, both_left, both_right, fails_false, pick_true, pick_false, each_mono}
-use Rattle.deriving.specs.Derived.{LineHere}
-use Rattle.deriving.specs.DerivationRead.{plan_ends_slot}
+use Rattle.derivation.specs.Derived.{LineHere}
+use Rattle.derivation.specs.DerivationRead.{plan_ends_slot}
 use Rattle.steps.specs.Small.{Small}
 use Rattle.steps.proofs.SmallActions.{plan_small}
 use Rattle.comparing.specs.declared.spots.Spot.{Spot}

@@ -18,7 +18,7 @@ use Rattle.meaning.specs.Derivations.{Line, follows, citations_of, a_rule, cited
 use Rattle.meaning.proofs.TestLaws.{pick_true, pick_false}
 use Rattle.parsing.specs.declared.lists.Passed.TheVariants.{To, Fault as Stop}
 use Rattle.parsing.specs.Read.{passed}
-use Rattle.deriving.specs.DerivationRead.{plan_ends_slot, places_slots}
+use Rattle.derivation.specs.DerivationRead.{plan_ends_slot, places_slots}
 use Rattle.comparing.proofs.SpotLaws.{spot_line}
 use Rattle.checking.specs.Checked.{lines_in, no_line, line_in, spot_in, AllStand, Numbered, refused_by}
 use Rattle.checking.proofs.EachLineLaws.{own_few, own}

@@ -8,7 +8,7 @@ use Rattle.meaning.specs.Derivations.{Conclusion, knows_whether, Line, Derivatio
 use Rattle.parsing.specs.declared.lists.Passed.{Passed}
 use Rattle.parsing.specs.Read.{passed}
 use Rattle.reading.specs.Listed.{listed}
-use Rattle.deriving.specs.DerivationRead.{lines_end}
+use Rattle.derivation.specs.DerivationRead.{lines_end}
 use Rattle.steps.specs.Held.{request_in}
 use Rattle.comparing.specs.Stands.{NumbersStand, LinesStand, ClosingStands}
 use Rattle.checking.specs.declared.question.Asked.{Asked}

@@ -8,8 +8,8 @@ use Rattle.meaning.specs.Literals.{among}
 use Rattle.meaning.specs.Requests.{Table, done}
 use Rattle.meaning.specs.Reading.{Got, got, fault}
 use Rattle.meaning.specs.Derivations.{knows, Line, Derivation, read_derivation, follows, citations_of, a_rule, cited_by}
-use Rattle.deriving.specs.Derived.{LinesHere}
-use Rattle.deriving.specs.DerivationRead.{plan_ends_slot}
+use Rattle.derivation.specs.Derived.{LinesHere}
+use Rattle.derivation.specs.DerivationRead.{plan_ends_slot}
 use Rattle.comparing.specs.declared.spots.Spot.{Spot}
 use Rattle.comparing.specs.Stands.{spot_at, LinesStand}
 

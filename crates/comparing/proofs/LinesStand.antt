@@ -24,15 +24,15 @@ use Rattle.parsing.specs.declared.lists.Passed.{Passed}
 use Rattle.parsing.specs.declared.lists.Passed.TheVariants.{To}
 use Rattle.reading.specs.Noted.{noting, outcome}
 use Rattle.reading.specs.Planned.{bytes_of}
-use Rattle.deriving.specs.DerivationRead.{plan_end, derivation_noted, settled_derivation, plan_ends_slot, places_slots}
-use Rattle.deriving.specs.Derived.{LineHere, LinesHere}
+use Rattle.derivation.specs.DerivationRead.{plan_end, derivation_noted, settled_derivation, plan_ends_slot, places_slots}
+use Rattle.derivation.specs.Derived.{LineHere, LinesHere}
 use Rattle.reading.proofs.SectionLaws.{got_place, byte_got, number_got, count_got, noting_got}
 use Rattle.finding.proofs.HereLaws.{list_here, list_apart}
 use Rattle.reading.proofs.PlanSizes.{list_through}
 use Rattle.finding.proofs.PlanHere.{listed_length}
 use Rattle.finding.proofs.WrittenLaws.{two_is}
-use Rattle.deriving.proofs.DerivationLaws.{plan_ends}
-use Rattle.deriving.proofs.DerivedLaws.{derived_here}
+use Rattle.derivation.proofs.DerivationLaws.{plan_ends}
+use Rattle.derivation.proofs.DerivedLaws.{derived_here}
 use Rattle.comparing.specs.declared.spots.Spot.{Spot}
 use Rattle.comparing.specs.Stands.{after_list, ListStands, PlanStands, NumbersStand, ConclusionStands, Stands, spot_at, LinesStand, ClosingStands, Derived, SomeDerived}
 use Rattle.comparing.proofs.CodedReads.{plan_coded}

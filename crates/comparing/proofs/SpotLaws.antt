@@ -16,7 +16,7 @@ use Rattle.meaning.specs.Requests.{done}
 use Rattle.meaning.specs.Derivations.{Conclusion, knows, knows_whether, Line, concludes_fluent, same_list, same_conclusion}
 use Rattle.meaning.proofs.TestLaws.{by-test, clash, pick_true, pick_false}
 use Rattle.reading.specs.Listed.{listed, ListHere}
-use Rattle.deriving.specs.DerivationRead.{plan_ends_slot}
+use Rattle.derivation.specs.DerivationRead.{plan_ends_slot}
 use Rattle.finding.specs.Branches.{sequence_place}
 use Rattle.comparing.specs.declared.spots.Spot.{Spot}
 use Rattle.comparing.specs.Stands.{after_list, ConclusionStands, Stands, spot_at}

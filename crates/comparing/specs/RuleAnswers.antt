@@ -9,7 +9,7 @@ use Rattle.reading.specs.Listed.{bytes_from}
 use Rattle.meaning.specs.declared.Form.TheVariants.{Flags}
 use Rattle.reading.specs.Planned.{bytes_of}
 use Rattle.finding.specs.PlansHeld.{own_items}
-use Rattle.deriving.specs.Derived.{LineHere}
+use Rattle.derivation.specs.Derived.{LineHere}
 use Rattle.steps.specs.Small.{Small}
 use Rattle.comparing.specs.declared.spots.Spot.{Spot}
 use Rattle.comparing.specs.Coded.{coded, Tellable}

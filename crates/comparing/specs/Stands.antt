@@ -13,8 +13,8 @@ use Rattle.reading.specs.Listed.{bytes_from, listed, ListHere}
 use Rattle.meaning.specs.declared.Form.TheVariants.{Flags}
 use Rattle.reading.specs.Planned.{bytes_of}
 use Rattle.finding.specs.PlansHeld.{own_items}
-use Rattle.deriving.specs.DerivationRead.{settled_derivation, plan_ends_slot, lines_end}
-use Rattle.deriving.specs.Derived.{LinesHere}
+use Rattle.derivation.specs.DerivationRead.{settled_derivation, plan_ends_slot, lines_end}
+use Rattle.derivation.specs.Derived.{LinesHere}
 use Rattle.comparing.specs.declared.spots.Spot.{Spot}
 use Rattle.comparing.specs.Coded.{coded, Tellable}
 

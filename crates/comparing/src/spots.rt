@@ -1,12 +1,12 @@
 ghost use Rattle.std.specs.Prelude.{◌≡◌, ◌+◌, ◌<◌, get_or};
-ghost use Rattle.deriving.specs.DerivationRead.{plan_ends_slot};
+ghost use Rattle.derivation.specs.DerivationRead.{plan_ends_slot};
 ghost use Rattle.comparing.specs.Stands.{spot_at};
 ghost use Rattle.comparing.specs.RuleAnswers.{SomeAt, SomeLines, SomeConcluded, SameConclusions};
 
 use super::parts::same_lists;
 use parsing::bytes::wide;
-use deriving::derivations::{Places, gives_fluent};
-use deriving::derived::{end_of, place_of};
+use derivation::derivations::{Places, gives_fluent};
+use derivation::derived::{end_of, place_of};
 use finding::branches::sequence_of;
 use meaning::{Form, Layout};
 

@@ -7,8 +7,8 @@ ghost use Rattle.finding.specs.TablesHere.{table_in, TableHere};
 ghost use Rattle.meaning.specs.declared.Form.TheVariants.{Flags};
 
 use super::building::{index_length, put_index};
-use parsing::limits;
 use finding::places::Found;
+use parsing::limits;
 use reading::notes::Notes;
 
 // The first difference of the first n bytes of one and all bytes of the other.

@@ -11,11 +11,11 @@ ghost use Rattle.finding.specs.LinesHere.{effect_from, EffectHere, place_in, eff
 ghost use Rattle.finding.specs.TablesHere.{table_in, RunsHere};
 ghost use Rattle.refusing.specs.Refusal16.{contradictory_as, among, agreeing, agreeing_sets, passing_lines, sets_apart, fluent_by, buckets, bucket_at, Linked, Sought, bucket_linked};
 
+use finding::places::Found;
+use meaning::Form;
 use parsing::bytes::wide;
 use parsing::limits;
 use parsing::values::Allowed;
-use finding::places::Found;
-use meaning::Form;
 use reading::marks::{Marks, Test, each_holds, state_of};
 use reading::notes;
 use reading::notes::{Notes, first_line, line_place, next_line};

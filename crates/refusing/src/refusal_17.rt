@@ -2,8 +2,8 @@ ghost use Rattle.std.specs.Prelude.{◌+◌, ◌<◌};
 ghost use Rattle.finding.specs.LinesHere.{KnowledgeHere};
 ghost use Rattle.refusing.specs.Refusal17.{MixedFound};
 
-use parsing::bytes::wide;
 use finding::places::Found;
+use parsing::bytes::wide;
 use reading::notes;
 use reading::notes::{Notes, first_line};
 

@@ -7,12 +7,12 @@ ghost use Rattle.finding.specs.Places.{found};
 ghost use Rattle.finding.specs.Branches.{conditions_from, BranchesHere, ItemHere, ItemsHere};
 ghost use Rattle.refusing.specs.Refusal18.{OverlapFound, rules_out, sets_rule_out, all_apart, item_apart, first_overlap};
 
-use parsing::bytes::wide;
-use parsing::limits;
-use parsing::values::Allowed;
 use finding::branches::{next_item, next_place};
 use finding::places::Found;
 use meaning::Form;
+use parsing::bytes::wide;
+use parsing::limits;
+use parsing::values::Allowed;
 use reading::marks::{Marks, Test, each_holds, state_of};
 use reading::notes;
 use reading::notes::{Notes, get};

@@ -15,10 +15,10 @@ ghost use Rattle.refusing.specs.Settled.{table_unmixed, table_settled_as, past_1
 use super::refusal_16::contradiction;
 use super::refusal_17::mixed;
 use super::refusal_18::overlap;
-use parsing::limits;
-use parsing::lists::Passed;
 use finding::places::Found;
 use meaning::Form;
+use parsing::limits;
+use parsing::lists::Passed;
 use reader::whole::{read_guarded, read_request, read_values};
 use reading::notes;
 use reading::notes::{Notes, get};

@@ -35,7 +35,7 @@ use Rattle.finding.specs.PlansHeld.{own_items, branches_in, Written, ItemWritten
 use Rattle.finding.proofs.ByBranch.{branch_first}
 use Rattle.finding.proofs.PlanHere.{place_is, item_is, listed_clear}
 use Rattle.finding.proofs.WrittenLaws.{plan_held}
-use Rattle.deriving.specs.Derived.{LineHere}
+use Rattle.derivation.specs.Derived.{LineHere}
 use Rattle.comparing.specs.declared.spots.Spot.{Spot}
 use Rattle.comparing.specs.Coded.{Tellable, TellableBranches}
 use Rattle.comparing.specs.Stands.{after_list, PlanStands, Stands}

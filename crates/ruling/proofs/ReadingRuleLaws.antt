@@ -25,7 +25,7 @@ use Rattle.meaning.proofs.ReadingsExact.{count_settled}
 use Rattle.reading.specs.Listed.{bytes_from, listed}
 use Rattle.meaning.specs.declared.Form.TheVariants.{Flags}
 use Rattle.reading.specs.Planned.{bytes_of}
-use Rattle.deriving.specs.DerivationRead.{plan_ends_slot}
+use Rattle.derivation.specs.DerivationRead.{plan_ends_slot}
 use Rattle.finding.specs.Branches.{sequence_place}
 use Rattle.finding.specs.PlansHeld.{own_items}
 use Rattle.steps.specs.AtHand.{Marked}

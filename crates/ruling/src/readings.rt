@@ -1,7 +1,7 @@
 ghost use Rattle.std.specs.Prelude.{◌+◌, ◌-◌, ◌<◌, ◌≡◌, [], ◌∷◌, get_or};
 ghost use Rattle.meaning.specs.Derivations.{rule_3};
 ghost use Rattle.meaning.specs.Limits.{format};
-ghost use Rattle.deriving.specs.DerivationRead.{plan_ends_slot};
+ghost use Rattle.derivation.specs.DerivationRead.{plan_ends_slot};
 ghost use Rattle.steps.specs.Held.{table_in};
 ghost use Rattle.steps.specs.AtHand.{AtHand, Marked};
 ghost use Rattle.comparing.specs.Stands.{spot_at};
@@ -15,7 +15,7 @@ use comparing::known::lists_known;
 use comparing::parts::same_part;
 use comparing::plans::count_of;
 use comparing::spots::{Spot, same_conclusions, spot_of};
-use deriving::derivations::Places;
+use derivation::derivations::Places;
 use finding::branches::sequence_of;
 use meaning::{Form, Layout};
 use reading::marks::{Marks, state_of};

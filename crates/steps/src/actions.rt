@@ -7,8 +7,8 @@ ghost use Rattle.steps.specs.Held.{table_in};
 ghost use Rattle.steps.specs.AtHand.{AtHand, Marked};
 ghost use Rattle.meaning.specs.declared.Form.TheVariants.{Flags};
 
-use parsing::bytes::wide;
 use meaning::Runs;
+use parsing::bytes::wide;
 use reading::marks::{Look, Marks, Test, each_holds, look_at, mark_of, short_by};
 use reading::notes;
 use reading::notes::{Notes, first_line, line_place, next_line};

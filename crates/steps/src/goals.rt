@@ -9,10 +9,10 @@ ghost use Rattle.valuing.specs.Valuing.{ValuedMarks};
 ghost use Rattle.steps.specs.AtHand.{AtHand, MarkedAs};
 ghost use Rattle.steps.specs.Steps.{met_as, bound_as, knows_as, lacks_as, missed_as};
 
-use parsing::bytes::{two, wide};
 use finding::branches::sequence_of;
 use finding::places::Found;
 use meaning::Form;
+use parsing::bytes::{two, wide};
 use reading::marks::{Marks, Test, holds};
 use reading::notes;
 use reading::notes::{Notes, get};

@@ -9,11 +9,11 @@ ghost use Rattle.steps.specs.Rests.{start};
 ghost use Rattle.steps.specs.Steps.{knows_as, Followed, Into, Chosen};
 ghost use Rattle.meaning.specs.declared.Form.TheVariants.{Flags};
 
-use parsing::bytes::wide;
-use parsing::limits;
 use finding::branches::{empty, next_item, next_place, sequence_of};
 use finding::places::Found;
 use meaning::Form;
+use parsing::bytes::wide;
+use parsing::limits;
 use reading::marks::{Marks, Test, each_holds};
 use reading::notes;
 use reading::notes::{Notes, get};

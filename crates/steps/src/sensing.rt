@@ -7,8 +7,8 @@ ghost use Rattle.steps.specs.AtHand.{AtHand, Marked, MarkedAs};
 ghost use Rattle.steps.specs.Steps.{unknown_as, all_unknown, first_of};
 ghost use Rattle.meaning.specs.declared.Form.TheVariants.{Flags};
 
-use parsing::limits;
 use meaning::Form;
+use parsing::limits;
 use reading::marks::Marks;
 use reading::notes;
 use reading::notes::{Notes, get, is_noted};

@@ -10,8 +10,8 @@ use Rattle.parsing.proofs.bytes.two.Reads as two-reads
 use Rattle.parsing.proofs.bytes.wide.Reads as wide-reads
 use Rattle.checking.proofs.each_line.check_lines.Reads as check-lines-reads
 use Rattle.checking.proofs.question.check_end.Reads as check-end-reads
-use Rattle.deriving.proofs.derivations.sized.Reads as sized_Reads
-use Rattle.deriving.proofs.derived.settle_derivation.Reads as settle-derivation-reads
+use Rattle.derivation.proofs.derivations.sized.Reads as sized_Reads
+use Rattle.derivation.proofs.derived.settle_derivation.Reads as settle-derivation-reads
 
 -- src/check.rt:25:18
 shared-slice-read-wide : tie.Need-shared-slice-read-wide

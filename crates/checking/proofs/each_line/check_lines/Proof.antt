@@ -9,7 +9,7 @@ use Rattle.checking.proofs.each_line.check_lines.Tie as tie
 use Rattle.checking.proofs.each_line.check_lines.Reads as reads
 use Rattle.checking.proofs.each_line.check_lines.Lts as lts
 use Rattle.checking.proofs.each_line.line_refused.Reads as line-refused-reads
-use Rattle.deriving.proofs.derived.place_of.Reads as place-of-reads
+use Rattle.derivation.proofs.derived.place_of.Reads as place-of-reads
 use Rattle.meaning.specs.declared.Form.TheVariants.{Flags}
 
 abbrev invariant-loop : tie.invariant-loop

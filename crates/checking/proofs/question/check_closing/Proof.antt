@@ -9,7 +9,7 @@ use Rattle.checking.proofs.question.check_closing.Lts as lts
 use Rattle.parsing.proofs.bytes.wide.Reads as wide-reads
 use Rattle.checking.proofs.question.check_fluents.Reads as check-fluents-reads
 use Rattle.checking.proofs.question.names.Reads as names-reads
-use Rattle.deriving.proofs.derived.place_of.Reads as place-of-reads
+use Rattle.derivation.proofs.derived.place_of.Reads as place-of-reads
 use Rattle.reading.proofs.notes.get.Reads as get-reads
 use Rattle.finding.proofs.branches.sequence_of.Reads as sequence-of-reads
 

@@ -6,7 +6,7 @@ use Rattle.comparing.proofs.spots.spot_at.Tie as tie
 use Rattle.comparing.proofs.spots.spot_at.Reads as reads
 use Rattle.comparing.proofs.spots.spot_at.Lts as lts
 use Rattle.parsing.proofs.bytes.wide.Reads as wide-reads
-use Rattle.deriving.proofs.derivations.gives_fluent.Reads as gives-fluent-reads
+use Rattle.derivation.proofs.derivations.gives_fluent.Reads as gives-fluent-reads
 use Rattle.finding.proofs.branches.sequence_of.Reads as sequence-of-reads
 
 -- src/spots.rt:34:17

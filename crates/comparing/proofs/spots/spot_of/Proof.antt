@@ -6,8 +6,8 @@ use Rattle.comparing.proofs.spots.spot_of.Tie as tie
 use Rattle.comparing.proofs.spots.spot_of.Reads as reads
 use Rattle.comparing.proofs.spots.spot_of.Lts as lts
 use Rattle.comparing.proofs.spots.spot_at.Reads as spot-at-reads
-use Rattle.deriving.proofs.derived.end_of.Reads as end-of-reads
-use Rattle.deriving.proofs.derived.place_of.Reads as place-of-reads
+use Rattle.derivation.proofs.derived.end_of.Reads as end-of-reads
+use Rattle.derivation.proofs.derived.place_of.Reads as place-of-reads
 
 -- src/spots.rt:80:9
 place-of-requires : tie.Need-place-of-requires

@@ -1,0 +1,14 @@
+-- At each turn no effect so far contradicts one before it, and the links lead to all of them.
+use Prim.Native.Nat.{◌-◌}
+use mathlib.Core.Path.{◌≡◌}
+use mathlib.Core.List.{[]}
+use Rattle.meaning.specs.Refusals.{first_against}
+use Rattle.finding.specs.LinesHere.{effects_in}
+use Rattle.refusing.specs.Refusal16.{contradictory_as, effects_before, Linked}
+use Rattle.refusing.proofs.refusal_16.contradiction.Given as goal
+
+abbrev pub invariant-loop-k : goal.invariant-loop-k
+invariant-loop-k l = Linked l.form l.s l.t l.same l.k × (first_against (contradictory_as l.form l.s) [] (effects_in l.form l.s l.t 0 l.count) ≡ first_against (contradictory_as l.form l.s) (effects_before l.form l.s l.t l.k) (effects_in l.form l.s l.t l.k (l.count - l.k)))
+
+abbrev pub decreases-loop-k : goal.decreases-loop-k
+decreases-loop-k l = l.count - l.k

@@ -1,0 +1,12 @@
+-- At each turn the first overlap of the plan is the first among the items left.
+use Prim.Native.Nat.{◌-◌}
+use mathlib.Core.Path.{◌≡◌}
+use Rattle.finding.specs.Places.{found}
+use Rattle.refusing.specs.Refusal18.{first_overlap}
+use Rattle.refusing.proofs.refusal_18.first_overlap.Given as goal
+
+abbrev pub invariant-loop-i : goal.invariant-loop-i
+invariant-loop-i l = found (first_overlap l.form l.s l.t l.count 0) ≡ found (first_overlap l.form l.s l.t (l.count - l.i) l.i)
+
+abbrev pub decreases-loop-i : goal.decreases-loop-i
+decreases-loop-i l = l.count - l.i

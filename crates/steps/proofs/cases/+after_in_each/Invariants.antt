@@ -1,0 +1,6 @@
+-- At each call a fluent less is left, so the calls end.
+use Rattle.steps.proofs.CaseLaws.{fluents_left}
+use Rattle.steps.proofs.cases.+after_in_each.Given as goal
+
+abbrev pub decreases-after_in_each : goal.decreases-after_in_each
+decreases-after_in_each l = fluents_left l.i

@@ -1,0 +1,19 @@
+-- The goals stand where the notes say and the whether entries after them; the first that one of the two lists misses is what is missed.
+use Rattle.steps.proofs.MissLaws.{goals_there, whether_there, goal_missed, whether_missed}
+use borrow.Author.Rules.{rules}
+use Rattle.steps.proofs.goals.missed.Goals as goal
+
+pub goal_missed-requires : goal.goal_missed-requires
+goal_missed-requires c = search (rules, goals_there)
+
+pub sequence_of-whether-requires : goal.sequence_of-whether-requires
+sequence_of-whether-requires c = search goals_there
+
+pub first_missed-requires : goal.first_missed-requires
+first_missed-requires c = search whether_there
+
+pub returns-in-At : goal.returns-in-At
+returns-in-At c = search goal_missed
+
+pub returns-in-Nowhere : goal.returns-in-Nowhere
+returns-in-Nowhere c = search whether_missed
