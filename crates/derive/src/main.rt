@@ -2,8 +2,8 @@
 
 #![tactic(auto)]
 
-use parsing::limits;
 use glintstring::derives::derive;
+use parsing::limits;
 use programs::{
     Asked, Input, REQUEST_ROOM, budget_asked, fail, option_asked, put_written, read_all,
     stack_is_enough,

@@ -28,7 +28,10 @@ fn put_action(rt: &impl Print, action: usize, asked: Fluents) -> io::Result<()> 
 // Says why a line is not taken.
 fn say_line<E: Write>(err: &mut E, line: Line) -> io::Result<()> {
     match line {
-        Line::Other => say(err, b"a line of readings has 0 and 1 and spaces between them"),
+        Line::Other => say(
+            err,
+            b"a line of readings has 0 and 1 and spaces between them",
+        ),
         Line::TooLong => say(err, b"a line of readings has no more than 1024 bytes"),
         _ => Ok(()),
     }

@@ -2,8 +2,8 @@
 
 #![tactic(auto)]
 
-use parsing::limits;
 use glintstring::indexes::index;
+use parsing::limits;
 use programs::{Input, REQUEST_ROOM, fail, option_asked, put_written, read_all, word_count};
 use std::io;
 use std::io::Write;

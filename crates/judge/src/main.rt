@@ -4,10 +4,10 @@
 
 ghost use Rattle.programs.specs.Input.{Within};
 
-use parsing::limits;
 use glintstring::judging::{
     Judged, judge, judge_by_cases, judge_guarded, judge_indexed, judge_values,
 };
+use parsing::limits;
 use programs::{
     Asked, Input, REQUEST_ROOM, budget_asked, fail, open_index, option_asked, put, put_line,
     put_number, put_state, put_values, read_all, stack_is_enough,

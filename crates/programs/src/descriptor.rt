@@ -68,7 +68,10 @@ pub fn open_index<R: Files>(rt: &R) -> io::Result<R::File> {
 pub fn open_answer<R: Files>(rt: &R) -> io::Result<R::File> {
     let found = open_descriptor(rt, ONLY_READS)?;
     let appends = found.flags / APPENDS % 2 == 1;
-    let mut file = OpenOptions::new().write(true).append(appends).open(rt, NAME)?;
+    let mut file = OpenOptions::new()
+        .write(true)
+        .append(appends)
+        .open(rt, NAME)?;
     go_to(&mut file, found.place);
     Ok(file)
 }

@@ -12,8 +12,8 @@ ghost use Rattle.programs.specs.Input.{Within};
 ghost use Rattle.programs.specs.Stack.{needed};
 
 use comparing::parts::same_part;
-pub use descriptor::open_index;
 use descriptor::open_answer;
+pub use descriptor::open_index;
 use meaning::Answer;
 use parsing::limits;
 use std::env::{Env, FillError};
@@ -351,7 +351,10 @@ fn say_too_small<E: Write>(
 ) -> io::Result<()> {
     err.write_all(said)?;
     err.write_all(name)?;
-    writeln!(err, ": the stack is too small: a walk may need {needed} bytes, and the limit is {limit}")
+    writeln!(
+        err,
+        ": the stack is too small: a walk may need {needed} bytes, and the limit is {limit}"
+    )
 }
 
 pub fn put(rt: &impl Print, bytes: &[u8]) -> io::Result<()> {
