@@ -1,6 +1,5 @@
 // What the program is asked by its arguments (FORMAT 12.30, 12.31), which the script has put in order: a command, for `judge` a budget, files.
-ghost use Rattle.std.specs.Prelude.{◌≤◌};
-ghost use Rattle.io.specs.Counts.{IsPrefixLen};
+ghost use Rattle.std.specs.Prelude.{◌≡◌, ◌≤◌, length, take};
 
 use programs::{Asked, is_word, number_at, word_at};
 use std::env::Env;
@@ -66,7 +65,8 @@ pub fn files_of(command: Command) -> usize
 
 // The name that argument i is. Of one that is longer than any file's it is as many bytes as buf has, and no file can be opened by these.
 pub fn name_at(rt: &impl Env, i: usize, buf: &mut [u8]) -> usize
-    ensures { IsPrefixLen result buf.new }
+    ensures in_bounds { result ≤ length buf.new }
+    ensures counted { result ≡ length (take result buf.new) }
 {
     match word_at(rt, i, buf) {
         Ok(n) => n,
