@@ -8,12 +8,12 @@ ghost use Rattle.meaning.specs.declared.Form.TheVariants.{Flags};
 
 use super::each_line::check_lines;
 use super::question::check_end;
-use parsing::bytes::{two, wide};
-use parsing::lists::Passed;
 use derivation::derivations;
 use derivation::derivations::{PLACES_SLOTS, Places};
 use derivation::derived::settle_derivation;
 use meaning::Layout;
+use parsing::bytes::{two, wide};
+use parsing::lists::Passed;
 use reading::notes;
 use reading::notes::Notes;
 

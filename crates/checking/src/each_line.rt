@@ -9,13 +9,13 @@ ghost use Rattle.checking.specs.Checked.{lines_in, line_in, spot_in, AllStand, N
 ghost use Rattle.meaning.specs.declared.Form.TheVariants.{Flags};
 
 use super::refusal_numbers;
-use parsing::bytes::{two, wide};
-use parsing::lists::Passed;
 use comparing::spots::{Spot, spot_of};
 use derivation::derivations::Places;
 use derivation::derived::place_of;
 use derivation::rule_numbers as rules;
 use meaning::Layout;
+use parsing::bytes::{two, wide};
+use parsing::lists::Passed;
 use reading::notes::Notes;
 use ruling::branchings::rule_4;
 use ruling::readings::rule_3;

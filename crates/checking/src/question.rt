@@ -10,8 +10,6 @@ ghost use Rattle.checking.specs.Asked.{conclusion_asked, begins, Names, SomeDeri
 ghost use Rattle.meaning.specs.declared.Form.TheVariants.{Flags};
 
 use super::refusal_numbers;
-use parsing::bytes::{two, wide};
-use parsing::lists::Passed;
 use comparing::parts::same_lists;
 use comparing::plans::same_plans;
 use comparing::spots::{Spot, spot_of};
@@ -20,6 +18,8 @@ use derivation::derivations::Places;
 use derivation::derived::place_of;
 use finding::branches::sequence_of;
 use meaning::{Form, Layout};
+use parsing::bytes::{two, wide};
+use parsing::lists::Passed;
 use reading::notes;
 use reading::notes::{Notes, get};
 

@@ -4,11 +4,11 @@ ghost use Rattle.comparing.specs.Stands.{spot_at};
 ghost use Rattle.comparing.specs.RuleAnswers.{SomeAt, SomeLines, SomeConcluded, SameConclusions};
 
 use super::parts::same_lists;
-use parsing::bytes::wide;
 use derivation::derivations::{Places, gives_fluent};
 use derivation::derived::{end_of, place_of};
 use finding::branches::sequence_of;
 use meaning::{Form, Layout};
+use parsing::bytes::wide;
 
 // Where the parts of a line stand: the line with its list X, the end of its plan, its conclusion, the count of its citations. And its
 // rule, and whether its conclusion is a fluent.

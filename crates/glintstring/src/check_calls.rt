@@ -7,11 +7,11 @@ ghost use Rattle.steps.specs.AtHand.{AtHand};
 ghost use Rattle.glintstring.specs.CheckCalls.{too_many, check_at_hand};
 ghost use Rattle.meaning.specs.declared.Form.TheVariants.{Flags};
 
-use parsing::bytes::wide;
-use parsing::lists::Passed;
 use checking::check::check_derivation;
 use finding::branches::sequence_of;
 use meaning::{Answer, Form, Layout};
+use parsing::bytes::wide;
+use parsing::lists::Passed;
 use reading::notes;
 use reading::notes::{Notes, get};
 use refusing::settled::settle;

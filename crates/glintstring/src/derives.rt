@@ -12,11 +12,11 @@ ghost use Rattle.steps.specs.AtHand.{AtHand};
 ghost use Rattle.steps.specs.Steps.{mode_in};
 ghost use Rattle.meaning.specs.declared.Form.TheVariants.{Flags};
 
+use finding::branches::sequence_of;
+use meaning::{Answer, Form};
 use parsing::bytes::wide;
 use parsing::limits;
 use parsing::lists::Passed;
-use finding::branches::sequence_of;
-use meaning::{Answer, Form};
 use reading::notes;
 use reading::notes::{Notes, get, put};
 use refusing::settled::settle;

@@ -7,9 +7,9 @@ ghost use Rattle.finding.specs.TablesHere.{TableHere};
 ghost use Rattle.steps.specs.Held.{request_in};
 ghost use Rattle.meaning.specs.declared.Form.TheVariants.{Flags};
 
-use parsing::lists::Passed;
 use indexing::building::{index_length, put_index};
 use meaning::Answer;
+use parsing::lists::Passed;
 use reading::notes;
 use reading::notes::Notes;
 use refusing::settled::settle;

@@ -12,12 +12,12 @@ ghost use Rattle.steps.specs.Steps.{form_in, walk_held};
 ghost use Rattle.meaning.specs.declared.Form.TheVariants.{Flags};
 
 use super::missing::line_at;
-use parsing::limits;
-use parsing::lists::Passed;
 use finding::places::Found;
 use indexing::differing::differs;
 use indexing::taking::take_index;
 use meaning::Answer;
+use parsing::limits;
+use parsing::lists::Passed;
 use reading::notes;
 use reading::notes::{Notes, put};
 use refusing::settled::{settle, settle_guarded, settle_values};

@@ -6,9 +6,9 @@ ghost use Rattle.steps.specs.AtHand.{AtHand};
 ghost use Rattle.glintstring.specs.Missing.{ItemByte};
 ghost use Rattle.meaning.specs.declared.Form.TheVariants.{Flags};
 
+use meaning::Runs;
 use parsing::bytes::wide;
 use parsing::limits;
-use meaning::Runs;
 use reading::marks::Marks;
 use reading::notes::Notes;
 use steps::actions::ask;

@@ -10,11 +10,11 @@ ghost use Rattle.guide.specs.GuideHeld.{came, ItemThere, ActionThere, meets, tak
 ghost use Rattle.meaning.specs.declared.Form.TheVariants.{Flags};
 
 use super::sensed::{is_against, sensed_by, taken_over};
-use parsing::bytes::wide;
-use parsing::limits;
 use finding::places::Found;
 use guidance::Told;
 use meaning::{Answer, Form};
+use parsing::bytes::wide;
+use parsing::limits;
 use reading::marks::Marks;
 use reading::notes;
 use reading::notes::{Notes, get};

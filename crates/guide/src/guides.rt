@@ -8,10 +8,10 @@ ghost use Rattle.guide.specs.GuideHeld.{fluents_of, guide_held, turned, row_end,
 use super::calls::{asked, at_start, call, none_asked};
 use super::going::{NO_ACTION, NOT_VERIFIED, Step};
 use super::sensed::Fluents;
-use parsing::limits;
 use glintstring::judging::judge;
 use guidance::Told;
 use meaning::Answer;
+use parsing::limits;
 use reading::marks::Marks;
 use verdicts::answers;
 use verdicts::answers::uncounted;

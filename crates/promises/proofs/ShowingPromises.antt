@@ -50,7 +50,7 @@ module _ (κs : Lfts 1) (given : Dens κs ps) where
   -- THE CONTRACT, as the source has it: the part's bytes, the block that it lies in and where it starts there.
   pub as_written : (part : Bor (List ℕ)) (exit : AtExit (ended_of 1 ps r) κs) → Post κs given part exit →
       (part.now ≡ (show answer request.now derivation.now).bytes)
-      × ((part.ref_ptr.0 ≡ chosen answer request.ptr.0 derivation.ptr.0)
+      × ((part.ref_ptr.0 ≡ chosen answer request.ref_ptr.0 derivation.ref_ptr.0)
       × (part.ref_ptr.1 ≡ chosen answer request.ref_ptr.1 derivation.ref_ptr.1 + (show answer request.now derivation.now).start))
   as_written part exit meets = meets
 
@@ -69,14 +69,14 @@ module _ (κs : Lfts 1) (given : Dens κs ps) where
     part_is : row.part ≡ show answer request.now derivation.now
     part_is = showing_holds row has answer request.now derivation.now same_answer same_request same-derivation
 
-    starts_in : (input : Bor (List ℕ)) → input.ref_ptr.0 ≡ chosen answer request.ptr.0 derivation.ptr.0 → input.ref_ptr.1 ≡ chosen answer request.ptr.1 derivation.ptr.1 →
-        (part.ptr.0 ≡ input.ref_ptr.0) × (part.ptr.1 ≡ input.ref_ptr.1 + (show answer request.now derivation.now).start)
+    starts_in : (input : Bor (List ℕ)) → input.ref_ptr.0 ≡ chosen answer request.ref_ptr.0 derivation.ref_ptr.0 → input.ref_ptr.1 ≡ chosen answer request.ref_ptr.1 derivation.ref_ptr.1 →
+        (part.ref_ptr.0 ≡ input.ref_ptr.0) × (part.ref_ptr.1 ≡ input.ref_ptr.1 + (show answer request.now derivation.now).start)
     starts_in input block at = (meets.1.0 ∙ sym block, meets.1.1 ∙ ap (λ (p : ℕ). p + (show answer request.now derivation.now).start) (sym at))
 
     pub answers_the_cases :
         (part.now ≡ row.part.bytes)
-        × (row.part.input ≡ Limits.the_request → (part.ptr.0 ≡ request.ptr.0) × (part.ptr.1 ≡ request.ptr.1 + row.part.start))
-        × (row.part.input ≡ Limits.the_derivation → (part.ptr.0 ≡ derivation.ptr.0) × (part.ptr.1 ≡ derivation.ptr.1 + row.part.start))
+        × (row.part.input ≡ Limits.the_request → (part.ref_ptr.0 ≡ request.ref_ptr.0) × (part.ref_ptr.1 ≡ request.ref_ptr.1 + row.part.start))
+        × (row.part.input ≡ Limits.the_derivation → (part.ref_ptr.0 ≡ derivation.ref_ptr.0) × (part.ref_ptr.1 ≡ derivation.ref_ptr.1 + row.part.start))
     answers_the_cases = rw part_is (
       meets.0,
       λ is.

@@ -6,13 +6,13 @@ ghost use Rattle.comparing.specs.RuleAnswers.{SomePlan, SomeLine, SomeRead, Read
 ghost use Rattle.ruling.specs.Branched.{branches_end, SomeBranched, BranchTaken};
 ghost use Rattle.meaning.specs.declared.Form.TheVariants.{Flags};
 
-use parsing::bytes::{Read, wide};
-use parsing::limits;
 use comparing::parts::same_lists;
 use comparing::plans::{count_of, joined_plans};
 use comparing::spots::{Spot, same_conclusions};
 use finding::branches::{next_item, next_place, sequence_of};
 use meaning::Form;
+use parsing::bytes::{Read, wide};
+use parsing::limits;
 use reading::marks::{Marks, Test, each_holds, state_of};
 use reading::notes;
 use reading::notes::Notes;

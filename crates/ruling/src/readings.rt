@@ -9,8 +9,6 @@ ghost use Rattle.comparing.specs.RuleAnswers.{SomeLine, SomeLines, CitedBelow, R
 ghost use Rattle.ruling.specs.Readings.{states_from, StandsSome, SomeFollows, SaysReading, SomeRest, Uses};
 ghost use Rattle.meaning.specs.declared.Form.TheVariants.{Flags};
 
-use parsing::bytes::{two, wide};
-use parsing::limits;
 use comparing::known::lists_known;
 use comparing::parts::same_part;
 use comparing::plans::count_of;
@@ -18,6 +16,8 @@ use comparing::spots::{Spot, same_conclusions, spot_of};
 use derivation::derivations::Places;
 use finding::branches::sequence_of;
 use meaning::{Form, Layout};
+use parsing::bytes::{two, wide};
+use parsing::limits;
 use reading::marks::{Marks, state_of};
 use reading::notes::Notes;
 use steps::actions::can_be_run;

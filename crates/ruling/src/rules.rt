@@ -5,14 +5,14 @@ ghost use Rattle.steps.specs.AtHand.{AtHand};
 ghost use Rattle.comparing.specs.RuleAnswers.{SomeLine, Ruled, RuledBy, RuledByTwo};
 ghost use Rattle.meaning.specs.declared.Form.TheVariants.{Flags};
 
-use parsing::bytes::wide;
-use parsing::limits;
 use comparing::known::{lists_known, within};
 use comparing::parts::same_lists;
 use comparing::plans::{count_of, joined_plans, same_plans};
 use comparing::spots::{Spot, same_conclusions};
 use finding::branches::{empty, sequence_of};
 use meaning::Form;
+use parsing::bytes::wide;
+use parsing::limits;
 use reading::marks::state_of;
 use reading::notes::Notes;
 use steps::actions::{can_be_run, state_after};

@@ -17,10 +17,10 @@ ghost use Rattle.schemes.specs.Put.{CitesMore, Put, ReadingsPut};
 ghost use Rattle.schemes.specs.Sizes.{Lined, Measured};
 ghost use Rattle.meaning.specs.declared.Form.TheVariants.{Flags};
 
-use parsing::bytes::wide;
-use parsing::limits;
 use finding::places::Found;
 use meaning::Form;
+use parsing::bytes::wide;
+use parsing::limits;
 use reading::marks::{Marks, state_of};
 use reading::notes;
 use reading::notes::{Notes, get};

@@ -5,8 +5,8 @@ ghost use Rattle.verdicts.specs.Telling.{told, ByteMarks, Tallied};
 
 use super::answers;
 use super::answers::uncounted;
-use parsing::limits;
 use meaning::Answer;
+use parsing::limits;
 use steps::trying::{TOO_MANY, TOO_WIDE};
 use walking::tally::{SPENT, Tally};
 

@@ -6,8 +6,8 @@ ghost use Rattle.steps.specs.AtHand.{AtHand};
 ghost use Rattle.steps.specs.Steps.{form_in, first_in, walk_held};
 
 use super::telling::tell;
-use parsing::bytes::wide;
 use meaning::Answer;
+use parsing::bytes::wide;
 use reading::marks::{Marks, state_of};
 use reading::notes;
 use reading::notes::{Notes, get};

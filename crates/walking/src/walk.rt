@@ -16,9 +16,9 @@ use super::asked::{
 };
 use super::tally;
 use super::tally::{Tally, count_one, give_up, goes_on, note};
+use finding::places::Found;
 use parsing::bytes::wide;
 use parsing::limits;
-use finding::places::Found;
 use reading::marks::Marks;
 use reading::notes;
 use reading::notes::{Notes, get};

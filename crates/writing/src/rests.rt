@@ -12,10 +12,10 @@ ghost use Rattle.writing.specs.Ends.{ItemEnds};
 ghost use Rattle.meaning.specs.declared.Form.TheVariants.{Flags};
 
 use super::room::{put_number, put_part};
-use parsing::bytes::wide;
-use parsing::limits;
 use finding::branches::{next_item, next_place};
 use meaning::Form;
+use parsing::bytes::wide;
+use parsing::limits;
 use reading::notes;
 use reading::notes::{Notes, get};
 use steps::onward::follow;

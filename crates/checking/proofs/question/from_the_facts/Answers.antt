@@ -1,0 +1,19 @@
+-- The facts stand at place 2 of the request, and its plan up to its goals where the notes say.
+use Rattle.steps.proofs.HandLaws.{facts_here}
+use Rattle.checking.proofs.QuestionLaws.{asked_some, other_facts, same_facts, own_plan}
+use Rattle.checking.proofs.question.from_the_facts.Goals as goal
+
+pub same_lists-starts-requires-clause-list_here_2 : goal.same_lists-starts-requires-clause-list_here_2
+same_lists-starts-requires-clause-list_here_2 c = search facts_here
+
+pub same_plans-requires-clause-some_plan : goal.same_plans-requires-clause-some_plan
+same_plans-requires-clause-some_plan c = search own_plan
+
+pub same_plans-requires-clause-some_plan_2 : goal.same_plans-requires-clause-some_plan_2
+same_plans-requires-clause-some_plan_2 c = search asked_some
+
+pub returns-then-starts : goal.returns-then-starts
+returns-then-starts c = search same_facts
+
+pub returns : goal.returns
+returns c = search other_facts
