@@ -4,7 +4,7 @@
  * A request has a domain table, a plan and goals in its bytes, a guarded request has guards behind these, a values request has fluents
  * with 2 to 16 values each, a derivation has lines by which the plan reaches its goals, a release file has many plans over one table, and
  * an index says where the lines of each action stand in a request; docs/FORMAT.md is the format, and numbers such as FORMAT 4.3 are those
- * of its sentences. docs/STATEMENTS.md says what is proved of each call. Link libglintstring.a, which `rt staticlib glintstring` writes
+ * of its sentences. docs/STATEMENTS.md says what is proved of each call. Link libglintstring.a, which `packaging/library` writes
  * for x86-64 Linux. C99 or later, or C++. examples/c/review.c is a small program that uses all of it.
  */
 #ifndef GLINTSTRING_H

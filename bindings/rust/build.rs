@@ -1,9 +1,9 @@
 //! Says where libglintstring.a is to be looked for when something is linked: in the folder that GLINTSTRING_LIB_DIR names, or else where
-//! `rt staticlib glintstring` writes it. Only with the feature `prove` is that command run here. A check and a documentation link nothing,
-//! so a library that is missing is no error of this script.
+//! `packaging/library` writes it. Only with the feature `prove` is it proved and built here, by `rt lib` in `crates/glintstring_c`. A check and a
+//! documentation link nothing, so a library that is missing is no error of this script.
 
 use std::env;
-use std::fs::OpenOptions;
+use std::fs::{self, OpenOptions};
 use std::io::Write;
 use std::path::{Path, PathBuf};
 use std::process::{exit, Command};
@@ -83,7 +83,7 @@ fn no_library() -> Option<String> {
     })
 }
 
-/// The folder in which the toolchain leaves the proved library, whether it has done so or not.
+/// The folder in which the proved library is left, whether it has been or not.
 fn expected() -> Option<PathBuf> {
     if let Some(why) = no_library() {
         missing(why);
@@ -92,7 +92,7 @@ fn expected() -> Option<PathBuf> {
     let folder = root().join("target/staticlib");
     if !has_library(&folder) {
         missing(format!(
-            "there is no {ARCHIVE} in {}. `rt staticlib glintstring` proves and writes it, in {}; the feature `prove` has the build do so; \
+            "there is no {ARCHIVE} in {}. `packaging/library` proves and writes it, in {}; the feature `prove` has the build do so; \
              {VARIABLE} names another folder",
             folder.display(),
             root().display()
@@ -111,23 +111,29 @@ fn proved() -> PathBuf {
     for sources in ["crates", "crates.txt"] {
         println!("cargo:rerun-if-changed={}", root.join(sources).display());
     }
-    let waiting = "waiting for `rt staticlib glintstring`, which proves and builds the library: minutes, unless that has been done";
+    let waiting = "waiting for `rt lib` in crates/glintstring_c, which proves and builds the library: minutes, unless that has been done";
     warn(waiting.to_string());
     // Cargo holds warnings back until this script has ended, and takes its standard error.
     if let Ok(mut terminal) = OpenOptions::new().write(true).open("/dev/tty") {
         _ = writeln!(terminal, "\rglintstring: {waiting}\x1b[K");
     }
     let since = Instant::now();
-    let status = Command::new("rt").args(["staticlib", "glintstring"]).current_dir(&root).status();
+    let sources = root.join("crates/glintstring_c");
+    let status = Command::new("rt").arg("lib").current_dir(&sources).status();
     let instead = format!("Set {VARIABLE} to a folder that has {ARCHIVE} to do without it");
     match status {
         Err(error) => fail(format!("`rt`, the Rattle toolchain, cannot be run ({error}). {instead}")),
-        Ok(status) if !status.success() => fail(format!("`rt staticlib glintstring` failed ({status}). {instead}")),
+        Ok(status) if !status.success() => fail(format!("`rt lib` failed in crates/glintstring_c ({status}). {instead}")),
         Ok(_) => warn(format!("the library is proved and built ({} s)", since.elapsed().as_secs())),
     }
+    // An archive is named by its crate there, and here by what is linked.
+    let built = sources.join("out/libglintstring_c.a");
+    if !built.is_file() {
+        fail("`rt lib` left no libglintstring_c.a in crates/glintstring_c/out".to_string());
+    }
     let folder = root.join("target/staticlib");
-    if !folder.join(ARCHIVE).is_file() {
-        fail(format!("`rt staticlib glintstring` left no {ARCHIVE} in target/staticlib"));
+    if let Err(error) = fs::create_dir_all(&folder).and_then(|()| fs::copy(&built, folder.join(ARCHIVE))) {
+        fail(format!("{ARCHIVE} cannot be written to {} ({error}). {instead}", folder.display()));
     }
     folder
 }

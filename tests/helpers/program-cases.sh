@@ -77,7 +77,7 @@ says() { # STATUS NAME TEXT
 # The program started by itself, with the limits that there are.
 directly() { # [ARGUMENT...]
     local tools run
-    tools=$(dirname "$(dirname "$(rt doc)")")/on/$(uname -m)/toolchain
+    tools=$(dirname "$(rt doc)")/toolchain
     run=("$tools/lib/ld-linux-x86-64.so.2" --library-path "$tools/lib" "build/programs/$program.$(crates/programs/run --sum "$program")")
     [ "$(uname -m)" = x86_64 ] || run=("$tools/bin/qemu-x86_64" "${run[@]}")
     "${run[@]}" "$@"

@@ -1,4 +1,4 @@
-# Sourced, with $out, the folder of products: what compiles C for x86-64, which the archive of `rt staticlib` is for, and what runs the result.
+# Sourced, with $out, the folder of products: what compiles C for x86-64, which the proved archive is for, and what runs the result.
 # Elsewhere than on x86-64 these are Debian's cross compiler and the toolchain's emulator, as the plainest machine of the kind.
 # shellcheck shell=bash disable=SC2034
 compiler=(cc)
@@ -7,7 +7,7 @@ emulator=()
 if [ "$(uname -m)" != x86_64 ]; then
     compiler=(x86_64-linux-gnu-gcc -static)
     compiler_package=gcc-x86-64-linux-gnu
-    emulator=("$(dirname "$(dirname "$(rt doc)")")/on/$(uname -m)/toolchain/bin/qemu-x86_64" -cpu qemu64)
+    emulator=("$(dirname "$(rt doc)")/toolchain/bin/qemu-x86_64" -cpu qemu64)
 fi
 
 # Whether a command is there, by apt-get if need be.

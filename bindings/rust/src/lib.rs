@@ -42,7 +42,7 @@
 //! # The library
 //!
 //! What is linked needs `libglintstring.a`; `cargo check` and `cargo doc` do without it. It is looked for in the folder that the variable
-//! `GLINTSTRING_LIB_DIR` names, or else in `target/staticlib` of the repository, where `rt staticlib glintstring` writes it for x86-64 Linux.
+//! `GLINTSTRING_LIB_DIR` names, or else in `target/staticlib` of the repository, where `packaging/library` writes it for x86-64 Linux.
 //! With the feature `prove` the build script runs that command.
 
 #![deny(missing_docs)]

@@ -1,4 +1,4 @@
-// The calls under the names by which other languages link them.
+// The calls as other languages have them, with answers in one number; the crate glintstring_c exports each under its name here.
 ghost use Rattle.std.specs.Prelude.{◌≡◌, ◌<◌, min};
 ghost use Rattle.meaning.specs.declared.Layout.TheVariants.{Plain, Closing};
 ghost use Rattle.meaning.specs.Limits.{format};
@@ -34,8 +34,7 @@ fn pack(a: Answer) -> u64
 }
 
 // The walk call (FORMAT 1.15), with its answer in one number. It may be called with anything.
-#[unsafe(no_mangle)]
-pub extern "C" fn glintstring_judge(request: &[u8], state: &mut [u8], budget: u32) -> u64
+pub fn glintstring_judge(request: &[u8], state: &mut [u8], budget: u32) -> u64
     ensures value { result ≡ packed (judge format request.now state.old budget).answer }
     ensures state_after { state.new ≡ (judge format request.now state.old budget).state }
 {
@@ -44,8 +43,7 @@ pub extern "C" fn glintstring_judge(request: &[u8], state: &mut [u8], budget: u3
 }
 
 // The guarded call (FORMAT 21.1), with its answer in one number. It may be called with anything.
-#[unsafe(no_mangle)]
-pub extern "C" fn glintstring_judge_guarded(request: &[u8], state: &mut [u8], budget: u32) -> u64
+pub fn glintstring_judge_guarded(request: &[u8], state: &mut [u8], budget: u32) -> u64
     ensures value { result ≡ packed (judge_guarded format request.now state.old budget).answer }
     ensures state_after { state.new ≡ (judge_guarded format request.now state.old budget).state }
 {
@@ -54,8 +52,7 @@ pub extern "C" fn glintstring_judge_guarded(request: &[u8], state: &mut [u8], bu
 }
 
 // The call by cases (FORMAT 22.1), with its answer in one number. It may be called with anything.
-#[unsafe(no_mangle)]
-pub extern "C" fn glintstring_judge_by_cases(request: &[u8], state: &mut [u8], budget: u32) -> u64
+pub fn glintstring_judge_by_cases(request: &[u8], state: &mut [u8], budget: u32) -> u64
     ensures value { result ≡ packed (judge_by_cases format request.now state.old budget).answer }
     ensures state_after { state.new ≡ (judge_by_cases format request.now state.old budget).state }
 {
@@ -64,13 +61,7 @@ pub extern "C" fn glintstring_judge_by_cases(request: &[u8], state: &mut [u8], b
 }
 
 // The indexed call (FORMAT 23.10), with its answer in one number. It may be called with anything.
-#[unsafe(no_mangle)]
-pub extern "C" fn glintstring_judge_indexed(
-    request: &[u8],
-    index: &[u8],
-    state: &mut [u8],
-    budget: u32,
-) -> u64
+pub fn glintstring_judge_indexed(request: &[u8], index: &[u8], state: &mut [u8], budget: u32) -> u64
     ensures value { result ≡ packed (judge_indexed format request.now index.now state.old budget).answer }
     ensures state_after { state.new ≡ (judge_indexed format request.now index.now state.old budget).state }
 {
@@ -79,8 +70,7 @@ pub extern "C" fn glintstring_judge_indexed(
 }
 
 // The values call (FORMAT 26.1), with its answer in one number. It may be called with anything.
-#[unsafe(no_mangle)]
-pub extern "C" fn glintstring_judge_values(request: &[u8], state: &mut [u8], budget: u32) -> u64
+pub fn glintstring_judge_values(request: &[u8], state: &mut [u8], budget: u32) -> u64
     ensures value { result ≡ packed (judge_values format request.now state.old budget).answer }
     ensures state_after { state.new ≡ (judge_values format request.now state.old budget).state }
 {
@@ -88,8 +78,7 @@ pub extern "C" fn glintstring_judge_values(request: &[u8], state: &mut [u8], bud
 }
 
 // The index call (FORMAT 23.6), with its answer in one number. It may be called with anything.
-#[unsafe(no_mangle)]
-pub extern "C" fn glintstring_index(request: &[u8], room: &mut [u8]) -> u64
+pub fn glintstring_index(request: &[u8], room: &mut [u8]) -> u64
     ensures value { result ≡ packed (build format request.now room.old).answer }
     ensures room_after { room.new ≡ (build format request.now room.old).room }
 {
@@ -97,8 +86,7 @@ pub extern "C" fn glintstring_index(request: &[u8], room: &mut [u8]) -> u64
 }
 
 // The derive call (FORMAT 24.11), with its answer in one number. It may be called with anything.
-#[unsafe(no_mangle)]
-pub extern "C" fn glintstring_derive(request: &[u8], out: &mut [u8], budget: u32) -> u64
+pub fn glintstring_derive(request: &[u8], out: &mut [u8], budget: u32) -> u64
     ensures value { result ≡ packed (derive format request.now out.old budget).answer }
     ensures out_after { out.new ≡ (derive format request.now out.old budget).room }
 {
@@ -106,13 +94,7 @@ pub extern "C" fn glintstring_derive(request: &[u8], out: &mut [u8], budget: u32
 }
 
 // The walk call, with its answer in one number and the line in another, which is written whatever the answer is. It may be called with anything.
-#[unsafe(no_mangle)]
-pub extern "C" fn glintstring_judge_line(
-    request: &[u8],
-    state: &mut [u8],
-    budget: u32,
-    line: &mut u32,
-) -> u64
+pub fn glintstring_judge_line(request: &[u8], state: &mut [u8], budget: u32, line: &mut u32) -> u64
     ensures value { result ≡ packed (judge format request.now state.old budget).answer }
     ensures state_after { state.new ≡ (judge format request.now state.old budget).state }
     ensures line_after { line.new ≡ Asking.line format request.now state.old budget }
@@ -123,24 +105,21 @@ pub extern "C" fn glintstring_judge_line(
 }
 
 // The derivation call, with its answer in one number. It may be called with anything.
-#[unsafe(no_mangle)]
-pub extern "C" fn glintstring_check(request: &[u8], derivation: &[u8]) -> u64
+pub fn glintstring_check(request: &[u8], derivation: &[u8]) -> u64
     ensures { result ≡ packed (check format Plain request.now derivation.now) }
 {
     pack(check(request, derivation))
 }
 
 // The whether call, with its answer in one number. It may be called with anything.
-#[unsafe(no_mangle)]
-pub extern "C" fn glintstring_check_whether(request: &[u8], derivation: &[u8]) -> u64
+pub fn glintstring_check_whether(request: &[u8], derivation: &[u8]) -> u64
     ensures { result ≡ packed (check format Closing request.now derivation.now) }
 {
     pack(check_whether(request, derivation))
 }
 
 // The release call (FORMAT 19.1), with its own answer in one number and the plans' answers in the lent row. It may be called with anything.
-#[unsafe(no_mangle)]
-pub extern "C" fn glintstring_release(file: &[u8], row: &mut [u32], budget: u32) -> u64
+pub fn glintstring_release(file: &[u8], row: &mut [u32], budget: u32) -> u64
     ensures value { result ≡ packed (release format file.now row.old budget).answer }
     ensures row_after { row.new ≡ (release format file.now row.old budget).row }
 {
@@ -148,8 +127,7 @@ pub extern "C" fn glintstring_release(file: &[u8], row: &mut [u32], budget: u32)
 }
 
 // How many plans a file has, and 0 where the release call is refused before they are counted. It may be called with anything.
-#[unsafe(no_mangle)]
-pub extern "C" fn glintstring_plans(file: &[u8]) -> u32
+pub fn glintstring_plans(file: &[u8]) -> u32
     ensures { result ≡ plans_in format file.now }
 {
     plans(file) as u32
@@ -164,8 +142,7 @@ fn smaller(a: u64, b: u64) -> u64
 
 // The showing call, of an answer in one number: where, in the input that it names, the part starts. The part goes on to that input's end;
 // an answer that names neither shows the empty part at the start. It may be called with anything.
-#[unsafe(no_mangle)]
-pub extern "C" fn glintstring_show(answer: u64, request: &[u8], derivation: &[u8]) -> u64
+pub fn glintstring_show(answer: u64, request: &[u8], derivation: &[u8]) -> u64
     ensures { result ≡ (show (unpacked answer) request.now derivation.now).start }
 {
     let input = answer / 256 % 256;

@@ -8,19 +8,14 @@
 #include <stdio.h>
 #include <stdlib.h>
 
-/* As the library's sources pass a slice among themselves. */
-struct slice {
-    const uint8_t *start;
-    uint64_t length;
-};
-
 enum { STATE_MADE = 256, WALK_BEGINS = 257 };
 enum { NO_ACTION = -1 };
 
 #define REQUEST_MOST 16384
 
-uint8_t counted_read(const struct slice *slice, uint64_t place);
-uint64_t counted_note(const struct slice *slice, uint64_t what);
+/* The library's sources pass a slice among themselves as a pointer and a length. */
+uint8_t counted_read(const uint8_t *start, uint64_t length, uint64_t place);
+uint64_t counted_note(const uint8_t *start, uint64_t length, uint64_t what);
 uint64_t __real_glintstring_judge(const uint8_t *request, size_t request_length, uint8_t *state, size_t state_length, uint32_t budget);
 uint64_t __wrap_glintstring_judge(const uint8_t *request, size_t request_length, uint8_t *state, size_t state_length, uint32_t budget);
 
@@ -66,8 +61,9 @@ uint64_t __wrap_glintstring_judge(const uint8_t *first, size_t length, uint8_t *
     return answer;
 }
 
-uint64_t counted_note(const struct slice *slice, uint64_t what) {
-    (void)slice;
+uint64_t counted_note(const uint8_t *start, uint64_t length, uint64_t what) {
+    (void)start;
+    (void)length;
     if (what == WALK_BEGINS) walking = 1;
     else if (walking && what == STATE_MADE) action = NO_ACTION;
     else if (walking) {
@@ -79,15 +75,16 @@ uint64_t counted_note(const struct slice *slice, uint64_t what) {
     return what;
 }
 
-uint8_t counted_read(const struct slice *slice, uint64_t place) {
-    if (walking && slice->start == request && place < REQUEST_MOST && action_of[place] != NO_ACTION) {
+uint8_t counted_read(const uint8_t *start, uint64_t length, uint64_t place) {
+    (void)length;
+    if (walking && start == request && place < REQUEST_MOST && action_of[place] != NO_ACTION) {
         if (action == NO_ACTION) fault("of an effect, and no state is being made", place);
         if (action_of[place] != action) fault("of another action's effect", place);
         if (place <= last) fault("read twice, or after a later one", place);
         last = place;
         reads++;
     }
-    return slice->start[place];
+    return start[place];
 }
 
 __attribute__((destructor)) static void tell(void) {

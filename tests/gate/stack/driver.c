@@ -18,24 +18,24 @@ typedef unsigned char byte;
 typedef unsigned int u32;
 typedef unsigned long u64;
 
-// A slice as compiled Rattle takes it: where it starts, and its length.
+// The calls as the archive has them (include/glintstring.h). Each gives number + 2^8 * input + 2^16 * place + 2^32 * count, but the plans call.
+u64 glintstring_judge(const byte *request, u64 request_length, byte *state, u64 state_length, u32 budget);
+u64 glintstring_judge_guarded(const byte *request, u64 request_length, byte *state, u64 state_length, u32 budget);
+u64 glintstring_judge_by_cases(const byte *request, u64 request_length, byte *state, u64 state_length, u32 budget);
+u64 glintstring_judge_values(const byte *request, u64 request_length, byte *state, u64 state_length, u32 budget);
+u64 glintstring_judge_indexed(const byte *request, u64 request_length, const byte *index, u64 index_length, byte *state, u64 state_length, u32 budget);
+u64 glintstring_index(const byte *request, u64 request_length, byte *room, u64 room_length);
+u64 glintstring_derive(const byte *request, u64 request_length, byte *out, u64 out_length, u32 budget);
+u64 glintstring_check(const byte *request, u64 request_length, const byte *derivation, u64 derivation_length);
+u64 glintstring_check_whether(const byte *request, u64 request_length, const byte *derivation, u64 derivation_length);
+u64 glintstring_release(const byte *file, u64 file_length, u32 *row, u64 row_length, u32 budget);
+u32 glintstring_plans(const byte *file, u64 file_length);
+
+// Bytes, or other values: where they start, and how many there are.
 struct slice {
-    byte *at;
+    void *at;
     u64 length;
 };
-
-// number + 2^8 * input + 2^16 * place + 2^32 * count
-u64 proved_judge(const struct slice *request, const struct slice *lent, u32 budget);
-u64 proved_guarded(const struct slice *request, const struct slice *lent, u32 budget);
-u64 proved_by_cases(const struct slice *request, const struct slice *lent, u32 budget);
-u64 proved_values(const struct slice *request, const struct slice *lent, u32 budget);
-u64 proved_indexed(const struct slice *request, const struct slice *index, const struct slice *lent, u32 budget);
-u64 proved_index(const struct slice *request, const struct slice *room);
-u64 proved_derive(const struct slice *request, const struct slice *room, u32 budget);
-u64 proved_check(const struct slice *request, const struct slice *derivation);
-u64 proved_whether(const struct slice *request, const struct slice *derivation);
-u64 proved_release(const struct slice *file, const struct slice *row, u32 budget);
-u64 proved_plans(const struct slice *file, const struct slice *none);
 
 enum { READ = 0, WRITE = 1, MMAP = 9, MPROTECT = 10, EXIT = 60 };
 
@@ -89,15 +89,24 @@ static u64 untouched(u64 place) {
     return ~place * 0x9e3779b97f4a7c15UL;
 }
 
-// The call, with the stack pointer at `top`; what it pushes itself, the place to return to, counts as used. What a call does not take is ignored.
-static u64 call_at(u64 *top, void *function, const struct slice *request, const struct slice *other, u64 third, u64 fourth) {
-    u64 result;
+// The call of a function of so many words, with the stack pointer at `top`; what is pushed for it, the seventh word and the place to return to, counts as used.
+static u64 call_at(u64 *top, void *function, int count, const u64 words[7]) {
+    u64 result, first = words[0], second = words[1], third = words[2], fourth = words[3];
+    register u64 fifth __asm__("r8") = words[4];
+    register u64 sixth __asm__("r9") = words[5];
+    // At a call the stack pointer is a multiple of 16.
+    if (count == 7) *(top -= 2) = words[6];
     __asm__ volatile("movq %%rsp, %%rbx\n\tmovq %[top], %%rsp\n\tcallq *%[function]\n\tmovq %%rbx, %%rsp"
-                     : "=a"(result), "+D"(request), "+S"(other), "+d"(third), "+c"(fourth)
+                     : "=a"(result), "+D"(first), "+S"(second), "+d"(third), "+c"(fourth), "+r"(fifth), "+r"(sixth)
                      : [top] "r"(top), [function] "r"(function)
-                     : "rbx", "r8", "r9", "r10", "r11", "xmm0", "xmm1", "xmm2", "xmm3", "xmm4", "xmm5", "xmm6", "xmm7", "xmm8", "xmm9",
+                     : "rbx", "r10", "r11", "xmm0", "xmm1", "xmm2", "xmm3", "xmm4", "xmm5", "xmm6", "xmm7", "xmm8", "xmm9",
                        "xmm10", "xmm11", "xmm12", "xmm13", "xmm14", "xmm15", "memory", "cc");
     return result;
+}
+
+// A call of two slices, and of one more word.
+static u64 call_of_two(u64 *top, void *function, struct slice one, struct slice other, u64 last) {
+    return call_at(top, function, 5, (u64[7]){(u64)one.at, one.length, (u64)other.at, other.length, last});
 }
 
 static void print(u64 number, char after) {
@@ -146,31 +155,32 @@ _Noreturn __attribute__((used)) static void begin(long *arguments) {
 
     u64 answer;
     if (is_word(command, "walk")) {
-        answer = call_at(stack + WORDS, proved_judge, &request, &lent, number, 0);
+        answer = call_of_two(stack + WORDS, glintstring_judge, request, lent, number);
     } else if (is_word(command, "guarded")) {
-        answer = call_at(stack + WORDS, proved_guarded, &request, &lent, number, 0);
+        answer = call_of_two(stack + WORDS, glintstring_judge_guarded, request, lent, number);
     } else if (is_word(command, "by-cases")) {
-        answer = call_at(stack + WORDS, proved_by_cases, &request, &lent, number, 0);
+        answer = call_of_two(stack + WORDS, glintstring_judge_by_cases, request, lent, number);
     } else if (is_word(command, "values")) {
-        answer = call_at(stack + WORDS, proved_values, &request, &lent, number, 0);
+        answer = call_of_two(stack + WORDS, glintstring_judge_values, request, lent, number);
     } else if (is_word(command, "indexed")) {
-        room.length = proved_index(&request, &room) >> 32;
-        answer = call_at(stack + WORDS, proved_indexed, &request, &room, (u64)&lent, number);
+        room.length = glintstring_index(request.at, request.length, room.at, room.length) >> 32;
+        answer = call_at(stack + WORDS, glintstring_judge_indexed, 7,
+                         (u64[7]){(u64)request.at, request.length, (u64)room.at, room.length, (u64)lent.at, lent.length, number});
     } else if (is_word(command, "index")) {
-        answer = call_at(stack + WORDS, proved_index, &request, &room, 0, 0);
+        answer = call_of_two(stack + WORDS, glintstring_index, request, room, 0);
     } else if (is_word(command, "derive")) {
-        answer = call_at(stack + WORDS, proved_derive, &request, &room, number, 0);
+        answer = call_of_two(stack + WORDS, glintstring_derive, request, room, number);
     } else if (is_word(command, "release")) {
-        struct slice rows = {(byte *)row, 4 * proved_plans(&request, &lent)};
-        answer = call_at(stack + WORDS, proved_release, &request, &rows, number, 0);
+        struct slice rows = {row, 4 * glintstring_plans(request.at, request.length)};
+        answer = call_of_two(stack + WORDS, glintstring_release, request, rows, number);
         for (u64 place = 2; place < rows.length; place += 4) answer += (u64)row[place] << 32;
     } else if (is_word(command, "plans")) {
-        answer = call_at(stack + WORDS, proved_plans, &request, &lent, 0, 0);
+        answer = call_at(stack + WORDS, glintstring_plans, 2, (u64[7]){(u64)request.at, request.length}) & 0xffffffff;
     } else {
         if (request.length < number) fail("driver: the request is shorter than its length\n");
         struct slice derivation = {bytes + number, request.length - number};
         request.length = number;
-        answer = call_at(stack + WORDS, is_word(command, "check") ? proved_check : proved_whether, &request, &derivation, 0, 0);
+        answer = call_of_two(stack + WORDS, is_word(command, "check") ? (void *)glintstring_check : (void *)glintstring_check_whether, request, derivation, 0);
     }
 
     u64 lowest = PAGE;
