@@ -2,48 +2,60 @@
 
 #![tactic(auto)]
 
-use parsing::limits;
 use glintstring::derives::derive;
-use libc::STDIN_FILENO;
+use parsing::limits;
 use programs::{
-    Asked, Input, REQUEST_ROOM, budget_asked, option_asked, put_written, read_all, stack_is_enough,
+    Asked, Input, REQUEST_ROOM, budget_asked, fail, option_asked, put_written, read_all,
+    stack_is_enough,
 };
+use std::io;
+use std::io::Write;
+use std::rt::Files;
 
 // Without enough stack there is no answer, which is said.
-fn answer_to(request: &[u8], budget: u32, told: bool) -> bool {
-    if !stack_is_enough(b"derive", b"", request.len()) {
-        return true;
+fn answer_to<R: Print + Files, E: Write>(
+    rt: &R,
+    err: &mut E,
+    request: &[u8],
+    budget: u32,
+    told: bool,
+) -> io::Result<()> {
+    if !stack_is_enough(rt, err, b"derive", b"", request.len()) {
+        return Ok(());
     }
     // Room for every derivation that is written.
     let mut room = [0u8; limits::DERIVATION];
     let answer = derive(request, &mut room, budget);
-    put_written(answer, &room, told)
+    put_written(rt, err, answer, &room, told)
 }
 
-fn derive_input(budget: u32, told: bool) {
+fn derive_input<R: Print + io::Input + Files, E: Write>(
+    rt: &R,
+    err: &mut E,
+    budget: u32,
+    told: bool,
+) {
     // One byte more than a request may have: a longer one is refused whatever it holds.
     let mut bytes = [0u8; REQUEST_ROOM];
-    match read_all(STDIN_FILENO, &mut bytes) {
+    match read_all(&mut rt.reader(), &mut bytes) {
         Input::Bytes(n) => {
-            if !answer_to(&bytes[..n], budget, told) {
-                os::fail(b"derive: standard output");
+            if let Err(error) = answer_to(rt, err, &bytes[..n], budget, told) {
+                fail(err, b"derive: standard output", error);
             }
         }
-        Input::Unreadable => os::fail(b"derive: standard input"),
+        Input::Unreadable(error) => fail(err, b"derive: standard input", error),
     }
 }
 
-fn main() {
-    let told = option_asked(1, b"--answer");
+fn main(rt: HostRuntime) {
+    let mut err = rt.stderr();
+    let told = option_asked(&rt, 1, b"--answer");
     // Beside a budget there are the program's name, and that word.
     let words = if told { 2 } else { 1 };
-    match budget_asked(words) {
-        Asked::Number(budget) => derive_input(budget, told),
+    match budget_asked(&rt, words) {
+        Asked::Number(budget) => derive_input(&rt, &mut err, budget, told),
         Asked::Nothing => {
-            io::write_all(
-                libc::STDERR_FILENO,
-                b"derive: a budget is a decimal number up to 4294967295\n",
-            );
+            let _ = err.write_all(b"derive: a budget is a decimal number up to 4294967295\n");
         }
     }
 }

@@ -26,7 +26,7 @@ pub enum Stage {
 
 // A guide: its own copy of the request, which is the first `length` bytes of the row; the answer that it gives where it was refused; and where it is on its way the action
 // whose readings the next call brings, the position in the plan and what is known.
-#[derive(Drop)]
+#[derive(Clone, Copy)]
 pub struct Guide {
     request: [u8; limits::REQUEST],
     length: usize,
@@ -38,13 +38,13 @@ pub struct Guide {
 }
 
 // What a start gives, and what a call gives.
-#[derive(Drop)]
+#[derive(Clone, Copy)]
 pub struct Started {
     pub guide: Guide,
     pub answer: Answer,
 }
 
-#[derive(Drop)]
+#[derive(Clone, Copy)]
 pub struct Turn {
     pub guide: Guide,
     pub told: Told,

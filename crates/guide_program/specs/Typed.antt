@@ -9,5 +9,5 @@ Kept (Readings n) row = n ≤ length row
 Kept Other row = Unit {0}
 Kept TooLong row = Unit {0}
 Kept End row = Unit {0}
-Kept Unreadable row = Unit {0}
+Kept (Unreadable _) row = Unit {0}
 Kept Unsaid row = Unit {0}

@@ -6,8 +6,9 @@ use super::typed::{Line, MOST, ROW, read_line};
 use guidance::Told;
 use guide::guides::Guide;
 use guide::sensed::Fluents;
-use libc::STDOUT_FILENO;
-use programs::{put, put_number};
+use programs::{fail, put, put_number};
+use std::io;
+use std::io::{Read, Write};
 
 // How a run ends: the plan is done; the start was refused, or there is no line of readings any more; or something failed, which is said.
 #[derive(Clone, Copy)]
@@ -17,16 +18,22 @@ pub enum Ending {
     Failed,
 }
 
-fn put_action(action: usize, asked: Fluents) -> bool {
-    put(b"do ") && put_number(action as u64) && put_fluents(STDOUT_FILENO, asked) && put(b"\n")
+fn put_action(rt: &impl Print, action: usize, asked: Fluents) -> io::Result<()> {
+    put(rt, b"do ")?;
+    put_number(rt, action as u64)?;
+    put_fluents(&mut io::writer(rt), asked)?;
+    put(rt, b"\n")
 }
 
 // Says why a line is not taken.
-fn say_line(line: Line) -> bool {
+fn say_line<E: Write>(err: &mut E, line: Line) -> io::Result<()> {
     match line {
-        Line::Other => say(b"a line of readings has 0 and 1 and spaces between them"),
-        Line::TooLong => say(b"a line of readings has no more than 1024 bytes"),
-        _ => true,
+        Line::Other => say(
+            err,
+            b"a line of readings has 0 and 1 and spaces between them",
+        ),
+        Line::TooLong => say(err, b"a line of readings has no more than 1024 bytes"),
+        _ => Ok(()),
     }
 }
 
@@ -39,34 +46,58 @@ fn is_again(line: Line) -> bool {
     }
 }
 
-// Reads lines until one has readings, or there is none any more.
-fn ask(asked: Fluents, prompts: bool, row: &mut [u8]) -> Line
+// Asks for a line where somebody is to be asked, and reads it.
+fn ask_once<I: Read, E: Write>(
+    input: &mut I,
+    err: &mut E,
+    asked: Fluents,
+    prompts: bool,
+    row: &mut [u8],
+) -> Line
     ensures { Kept result row.new }
 {
-    let mut lines = 0u64;
-    while lines < MOST {
-        lines += 1;
-        if prompts && !prompt(asked) {
-            return Line::Unsaid;
-        }
-        let line = read_line(row);
+    if prompts && prompt(err, asked).is_err() {
+        return Line::Unsaid;
+    }
+    let line = read_line(input, row);
+    if is_again(line) && say_line(err, line).is_err() {
+        return Line::Unsaid;
+    }
+    line
+}
+
+// Reads lines until one has readings, or there is none any more.
+fn ask<I: Read, E: Write>(
+    input: &mut I,
+    err: &mut E,
+    asked: Fluents,
+    prompts: bool,
+    row: &mut [u8],
+) -> Line
+    ensures { Kept result row.new }
+{
+    for _ in 0..MOST {
+        let line = ask_once(input, err, asked, prompts, row);
         if !is_again(line) {
             return line;
-        }
-        if !say_line(line) {
-            return Line::Unsaid;
         }
     }
     Line::End
 }
 
-fn failed(stream: &[u8]) -> Ending {
-    os::fail(stream);
+fn failed<E: Write>(err: &mut E, stream: &[u8], error: io::Error) -> Ending {
+    fail(err, stream, error);
     Ending::Failed
 }
 
 // Calls the guide until the plan is done.
-pub fn lead(guide: Guide, prompts: bool) -> Ending {
+pub fn lead<R: Print + io::Input, E: Write>(
+    rt: &R,
+    err: &mut E,
+    guide: Guide,
+    prompts: bool,
+) -> Ending {
+    let mut input = rt.reader();
     let mut row = [0u8; ROW];
     let mut count = 0;
     let mut here = guide;
@@ -79,8 +110,8 @@ pub fn lead(guide: Guide, prompts: bool) -> Ending {
         let asked = here.asks();
         match told {
             Told::Do(action) => {
-                if !put_action(action, asked) {
-                    return failed(b"guide: standard output");
+                if let Err(error) = put_action(rt, action, asked) {
+                    return failed(err, b"guide: standard output", error);
                 }
                 if asked.count == 0 {
                     count = 0;
@@ -88,20 +119,20 @@ pub fn lead(guide: Guide, prompts: bool) -> Ending {
                 }
             }
             Told::Done => {
-                if put(b"done\n") {
-                    return Ending::Done;
-                }
-                return failed(b"guide: standard output");
+                return match put(rt, b"done\n") {
+                    Ok(()) => Ending::Done,
+                    Err(error) => failed(err, b"guide: standard output", error),
+                };
             }
             Told::Refused(answer) => {
-                if !say_refused(answer) {
+                if say_refused(err, answer).is_err() {
                     return Ending::Failed;
                 }
             }
         }
-        match ask(asked, prompts, &mut row) {
+        match ask(&mut input, err, asked, prompts, &mut row) {
             Line::Readings(n) => count = n,
-            Line::Unreadable => return failed(b"guide: standard input"),
+            Line::Unreadable(error) => return failed(err, b"guide: standard input", error),
             Line::Unsaid => return Ending::Failed,
             _ => return Ending::Early,
         }

@@ -1,7 +1,9 @@
 // A line of readings, from standard input (FORMAT 25.17, 25.18).
 ghost use Rattle.guide_program.specs.Typed.{Kept};
 
-use libc::STDIN_FILENO;
+use programs::{Input, read_all};
+use std::io;
+use std::io::Read;
 
 // How many bytes a line may have, and how many readings fit into one.
 const LINE: u64 = 1024;
@@ -19,7 +21,7 @@ pub enum Line {
     Other,
     TooLong,
     End,
-    Unreadable,
+    Unreadable(io::Error),
     Unsaid,
 }
 
@@ -28,19 +30,20 @@ pub enum Line {
 enum Next {
     Byte(u8),
     End,
-    Unreadable,
+    Unreadable(io::Error),
 }
 
-fn read_byte() -> Next {
+fn read_byte<R: Read>(input: &mut R) -> Next {
     let mut one = [0u8; 1];
-    let got = libc::read(STDIN_FILENO, &mut one);
-    if got < 0 {
-        return Next::Unreadable;
+    match read_all(input, &mut one) {
+        Input::Bytes(n) => {
+            if n == 0 {
+                return Next::End;
+            }
+            Next::Byte(one[0])
+        }
+        Input::Unreadable(error) => Next::Unreadable(error),
     }
-    if got == 0 {
-        return Next::End;
-    }
-    Next::Byte(one[0])
 }
 
 fn is_reading(byte: u8) -> bool {
@@ -54,7 +57,7 @@ fn reading(byte: u8) -> u8 {
 
 // Reads a line to its end, or to the end of the input where that has bytes before it, and puts its readings at the start of the row, where `plain` says whether they are
 // readings.
-pub fn read_line(row: &mut [u8]) -> Line
+pub fn read_line<R: Read>(input: &mut R, row: &mut [u8]) -> Line
     ensures { Kept result row.new }
 {
     let mut length = 0u64;
@@ -62,7 +65,7 @@ pub fn read_line(row: &mut [u8]) -> Line
     let mut apart = true;
     let mut plain = true;
     while length < MOST {
-        match read_byte() {
+        match read_byte(input) {
             Next::Byte(byte) => {
                 if byte == b'\n' {
                     break;
@@ -85,7 +88,7 @@ pub fn read_line(row: &mut [u8]) -> Line
                 }
                 break;
             }
-            Next::Unreadable => return Line::Unreadable,
+            Next::Unreadable(error) => return Line::Unreadable(error),
         }
     }
     if length > LINE {

@@ -8,9 +8,11 @@ ghost use Rattle.programs.specs.Input.{Within};
 use guidance::Told;
 use guide::guides::Guide;
 use guide::sensed::Fluents;
-use libc::{STDIN_FILENO, STDOUT_FILENO};
 use meaning::Answer;
-use programs::{Input, put, put_counted, put_number, read_all, stack_is_enough};
+use programs::{Input, fail, put, put_counted, put_number, read_all, stack_is_enough};
+use std::io;
+use std::io::{ErrorKind, Read, Write};
+use std::rt::Files;
 
 // The longest request and the most readings that a trial can have.
 const REQUEST_ROOM: usize = 65535;
@@ -20,11 +22,11 @@ const READINGS_ROOM: usize = 255;
 const MOST_TRIALS: u64 = 18446744073709551615;
 
 // As many bytes as buf has were read.
-fn is_read(buf: &mut [u8]) -> bool {
+fn is_read<I: Read>(input: &mut I, buf: &mut [u8]) -> bool {
     let due = buf.len();
-    match read_all(STDIN_FILENO, buf) {
+    match read_all(input, buf) {
         Input::Bytes(n) => n == due,
-        Input::Unreadable => false,
+        Input::Unreadable(_) => false,
     }
 }
 
@@ -40,8 +42,8 @@ fn with_byte(number: u32, byte: u8) -> u32 {
 }
 
 // The number that as many bytes as buf has write, the high byte first.
-fn number_read(buf: &mut [u8]) -> Number {
-    if !is_read(buf) {
+fn number_read<I: Read>(input: &mut I, buf: &mut [u8]) -> Number {
+    if !is_read(input, buf) {
         return Number::Missing;
     }
     let mut number = 0u32;
@@ -53,123 +55,151 @@ fn number_read(buf: &mut [u8]) -> Number {
     Number::Of(number)
 }
 
-fn one_byte() -> Number {
+fn one_byte<I: Read>(input: &mut I) -> Number {
     let mut bytes = [0u8; 1];
-    number_read(&mut bytes)
+    number_read(input, &mut bytes)
 }
 
-fn two_bytes() -> Number {
+fn two_bytes<I: Read>(input: &mut I) -> Number {
     let mut bytes = [0u8; 2];
-    number_read(&mut bytes)
+    number_read(input, &mut bytes)
 }
 
-fn four_bytes() -> Number {
+fn four_bytes<I: Read>(input: &mut I) -> Number {
     let mut bytes = [0u8; 4];
-    number_read(&mut bytes)
+    number_read(input, &mut bytes)
+}
+
+fn cut_short() -> io::Error {
+    io::Error::from(ErrorKind::UnexpectedEof)
 }
 
 // So many bytes are read to the start of buf.
-fn row_read(length: Number, buf: &mut [u8]) -> Input
+fn row_read<I: Read>(input: &mut I, length: Number, buf: &mut [u8]) -> Input
     ensures { Within 0 result buf.new }
 {
     match length {
         Number::Of(n) => {
             let end = n as usize;
             if buf.len() < end {
-                return Input::Unreadable;
+                return Input::Unreadable(cut_short());
             }
-            if is_read(&mut buf[..end]) {
+            if is_read(input, &mut buf[..end]) {
                 return Input::Bytes(end);
             }
-            Input::Unreadable
+            Input::Unreadable(cut_short())
         }
-        Number::Missing => Input::Unreadable,
+        Number::Missing => Input::Unreadable(cut_short()),
     }
 }
 
-fn put_answer(answer: Answer) -> bool {
-    put_number(answer.number as u64)
-        && put(b" ")
-        && put_number(answer.input as u64)
-        && put(b" ")
-        && put_number(answer.place as u64)
-        && put(b" ")
-        && put_number(answer.count as u64)
-        && put(b"\n")
+fn put_answer(rt: &impl Print, answer: Answer) -> io::Result<()> {
+    put_number(rt, answer.number as u64)?;
+    put(rt, b" ")?;
+    put_number(rt, answer.input as u64)?;
+    put(rt, b" ")?;
+    put_number(rt, answer.place as u64)?;
+    put(rt, b" ")?;
+    put_number(rt, answer.count as u64)?;
+    put(rt, b"\n")
 }
 
 // The fluents that are asked for, each behind a space.
-fn put_asked(asked: Fluents) -> bool {
+fn put_asked(rt: &impl Print, asked: Fluents) -> io::Result<()> {
     let row = asked.row;
-    put_counted(STDOUT_FILENO, &row, asked.count)
+    put_counted(&mut io::writer(rt), &row, asked.count)
 }
 
 // What a call answers, with the guide that it hands back.
-fn put_told(told: Told, guide: Guide) -> bool {
+fn put_told(rt: &impl Print, told: Told, guide: Guide) -> io::Result<()> {
     match told {
         Told::Do(a) => {
-            put(b"do ") && put_number(a as u64) && put_asked(guide.asks()) && put(b"\n")
+            put(rt, b"do ")?;
+            put_number(rt, a as u64)?;
+            put_asked(rt, guide.asks())?;
+            put(rt, b"\n")
         }
-        Told::Done => put(b"done\n"),
-        Told::Refused(answer) => put(b"refused ") && put_answer(answer),
+        Told::Done => put(rt, b"done\n"),
+        Told::Refused(answer) => {
+            put(rt, b"refused ")?;
+            put_answer(rt, answer)
+        }
     }
 }
 
 // So many calls, from standard input.
-fn put_calls(started: Guide, calls: u32) -> bool {
+fn put_calls<R: Print, I: Read>(
+    rt: &R,
+    input: &mut I,
+    started: Guide,
+    calls: u32,
+) -> io::Result<()> {
     let mut guide = started;
     let mut readings = [0u8; READINGS_ROOM];
     let mut i = 0;
     while i < calls {
         i += 1;
-        match row_read(one_byte(), &mut readings) {
+        let length = one_byte(input);
+        match row_read(input, length, &mut readings) {
             Input::Bytes(n) => {
                 let turn = guide.next(&readings[..n]);
                 let told = turn.told;
                 guide = turn.guide;
-                if !put_told(told, guide) {
-                    return false;
-                }
+                put_told(rt, told, guide)?;
             }
-            Input::Unreadable => return false,
+            Input::Unreadable(error) => return Err(error),
         }
     }
-    true
+    Ok(())
 }
 
 // The start and the calls behind it.
-fn put_started(request: &[u8], budget: u32) -> bool {
+fn put_started<R: Print, I: Read>(
+    rt: &R,
+    input: &mut I,
+    request: &[u8],
+    budget: u32,
+) -> io::Result<()> {
     let started = Guide::start(request, budget);
     let answer = started.answer;
-    if !(put(b"start ") && put_answer(answer)) {
-        return false;
-    }
-    match two_bytes() {
-        Number::Of(calls) => put_calls(started.guide, calls),
-        Number::Missing => false,
+    put(rt, b"start ")?;
+    put_answer(rt, answer)?;
+    match two_bytes(input) {
+        Number::Of(calls) => put_calls(rt, input, started.guide, calls),
+        Number::Missing => Err(cut_short()),
     }
 }
 
 // A trial with this budget.
-fn put_trial(budget: u32) -> bool {
+fn put_trial<R: Print + Files, I: Read, E: Write>(
+    rt: &R,
+    input: &mut I,
+    err: &mut E,
+    budget: u32,
+) -> io::Result<()> {
     let mut bytes = [0u8; REQUEST_ROOM];
-    match row_read(two_bytes(), &mut bytes) {
+    let length = two_bytes(input);
+    match row_read(input, length, &mut bytes) {
         Input::Bytes(n) => {
-            stack_is_enough(b"guide_trials", b"", n) && put_started(&bytes[..n], budget)
+            if !stack_is_enough(rt, err, b"guide_trials", b"", n) {
+                return Err(io::Error::from(ErrorKind::OutOfMemory));
+            }
+            put_started(rt, input, &bytes[..n], budget)
         }
-        Input::Unreadable => false,
+        Input::Unreadable(error) => Err(error),
     }
 }
 
 // It ends where the input ends, and at the first trial that can't be read or answered.
-fn put_trials() {
+fn put_trials<R: Print + io::Input + Files, E: Write>(rt: &R, err: &mut E) {
+    let mut input = rt.reader();
     let mut i = 0u64;
     while i < MOST_TRIALS {
         i += 1;
-        match four_bytes() {
+        match four_bytes(&mut input) {
             Number::Of(budget) => {
-                if !put_trial(budget) {
-                    os::fail(b"guide_trials");
+                if let Err(error) = put_trial(rt, &mut input, err, budget) {
+                    fail(err, b"guide_trials", error);
                     return;
                 }
             }
@@ -178,6 +208,6 @@ fn put_trials() {
     }
 }
 
-fn main() {
-    put_trials();
+fn main(rt: HostRuntime) {
+    put_trials(&rt, &mut rt.stderr());
 }

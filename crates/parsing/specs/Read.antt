@@ -1,7 +1,7 @@
 -- What the readers answer, in the terms of the definitions.
-use Rattle.std.specs.Prelude.{ℕ, ◌+◌, ◌-◌, ◌*◌, ◌/◌, List, ltb, get_or}
-use Rattle.meaning.specs.Tests.{pick}
-use Rattle.meaning.specs.Limits
+use Rattle.std.specs.Prelude.{ℕ, ◌-◌, Bool, List, ltb, eqb}
+use Rattle.meaning.specs.Tests.{both}
+use Rattle.meaning.specs.Literals.{complement}
 use Rattle.meaning.specs.Requests.{Effect, Executability, Knowledge}
 use Rattle.meaning.specs.Reading
 use Rattle.meaning.specs.Reading.{Got, got, fault, have_complements}
@@ -26,13 +26,9 @@ module _ {A : Type 0} where
 unfoldable pub kind_of : Kind → Reading.Kind
 kind_of k = elim k [ Literals ↦ Reading.Kind.literals | Fluents ↦ Reading.Kind.fluents ]
 
--- The least entry that may follow x: one above it that is not its complement (FORMAT 2.6, 2.7).
-unfoldable pub least_after : Reading.Kind → (x : ℕ) → ℕ
-least_after kind x = pick (have_complements kind) (λ _. x / 2 * 2 + 2) (λ _. x + 1)
-
--- What is wrong with an entry that is below the least one (FORMAT 4.12, 4.13).
-unfoldable pub wrong_at : List ℕ → (p : ℕ) → ℕ
-wrong_at s p = pick (ltb (get_or s (p - 1) 0) (get_or s p 0)) (λ _. Limits.complement_beside) (λ _. Limits.not_above)
+-- The entry is the complement of the one before it (FORMAT 4.13).
+unfoldable pub beside_floor : Reading.Kind → (floor x : ℕ) → Bool
+beside_floor kind floor x = both (have_complements kind) (both (ltb 0 floor) (eqb x (complement (floor - 1))))
 
 -- The action of a line, and the place after its body.
 unfoldable pub action_before : ℕ → Got (List ℕ) → Read

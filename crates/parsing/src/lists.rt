@@ -1,9 +1,9 @@
-ghost use Rattle.std.specs.Prelude.{◌≡◌, ◌≤◌, ◌<◌, length};
-ghost use Rattle.meaning.specs.Limits.{format, all_literals};
-ghost use Rattle.meaning.specs.Reading.{bound_of, entries_at, list_at};
-ghost use Rattle.parsing.specs.Read.{passed, kind_of, least_after, wrong_at};
+ghost use Rattle.std.specs.Prelude.{◌≡◌, ◌≤◌};
+ghost use Rattle.meaning.specs.Limits.{format};
+ghost use Rattle.meaning.specs.Reading.{bound_of, entry_at, entries_at, list_at};
+ghost use Rattle.parsing.specs.Read.{number_read, passed, kind_of, beside_floor};
 
-use super::bytes::{Read, count_at, wide};
+use super::bytes::{Read, below_at, count_at};
 use super::limits;
 
 // What a list holds.
@@ -31,28 +31,39 @@ fn first_too_large(kind: Kind, n: usize) -> usize
     }
 }
 
-// The least entry that may follow x.
-fn least(kind: Kind, x: usize) -> usize
-    requires { x < all_literals }
-    ensures { result ≡ least_after (kind_of kind) x }
+// The entry is the complement of the one before it, which `floor` is one more than; it is not below the floor.
+fn beside(kind: Kind, floor: usize, x: usize) -> bool
+    requires { floor ≤ x }
+    ensures { result ≡ beside_floor (kind_of kind) floor x }
 {
     match kind {
-        Kind::Literals => x / 2 * 2 + 2,
-        Kind::Fluents => x + 1,
+        Kind::Literals => {
+            if floor % 2 == 0 {
+                return false;
+            }
+            x == floor
+        }
+        Kind::Fluents => false,
     }
 }
 
-// What is wrong with the entry at p, which is below the least one that may follow the entry before it: it is that entry's complement, or not above it.
-fn wrong(s: &[u8], p: usize) -> u8
-    requires p_nonzero { 0 < p }
-    requires p_in_bounds { p < length s.now }
-    ensures { result ≡ wrong_at s.now p }
+// One entry. `floor` is 0 at the first entry, and else one more than the entry before.
+fn entry_at(kind: Kind, n: usize, s: &[u8], p: usize, floor: usize) -> Read
+    requires { n ≤ format.fluents }
+    ensures { result ≡ number_read (entry_at (kind_of kind) n s.now p floor) }
 {
-    let before = p - 1;
-    if s[before] < s[p] {
-        return limits::COMPLEMENT_BESIDE;
+    match below_at(first_too_large(kind, n), s, p) {
+        Read::Value(x, q) => {
+            if x < floor {
+                return Read::Fault(limits::NOT_ABOVE, p);
+            }
+            if beside(kind, floor, x) {
+                return Read::Fault(limits::COMPLEMENT_BESIDE, p);
+            }
+            Read::Value(x, q)
+        }
+        Read::Fault(k, q) => Read::Fault(k, q),
     }
-    limits::NOT_ABOVE
 }
 
 // A given number of entries from `start` on.
@@ -60,24 +71,20 @@ fn entries_at(kind: Kind, n: usize, s: &[u8], count: usize, start: usize) -> Pas
     requires { n ≤ format.fluents }
     ensures { result ≡ passed (entries_at (kind_of kind) n s.now count start 0) }
 {
-    let bound = first_too_large(kind, n);
     let mut left = count;
     let mut p = start;
-    let mut low: usize = 0;
+    let mut floor: usize = 0;
     while 0 < left {
-        if s.len() <= p {
-            return Passed::Fault(limits::ENDS_TOO_SOON, s.len());
+        match entry_at(kind, n, s, p, floor) {
+            Read::Value(x, q) => {
+                floor = x + 1;
+                p = q;
+                left -= 1;
+            }
+            Read::Fault(k, q) => {
+                return Passed::Fault(k, q);
+            }
         }
-        let x = wide(s[p]);
-        if bound <= x {
-            return Passed::Fault(limits::TOO_LARGE, p);
-        }
-        if x < low {
-            return Passed::Fault(wrong(s, p), p);
-        }
-        low = least(kind, x);
-        p += 1;
-        left -= 1;
     }
     Passed::To(p)
 }

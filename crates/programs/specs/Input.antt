@@ -6,4 +6,4 @@ use Rattle.programs.specs.declared.Input.TheVariants.{Bytes, Unreadable}
 -- The bytes read stand in the buffer, behind `done` others.
 abbrev pub Within : (done : ℕ) → Input → (buffer : List ℕ) → Type 0
 Within done (Bytes n) buffer = done + n ≤ length buffer
-Within done Unreadable buffer = Unit {0}
+Within done (Unreadable _) buffer = Unit {0}

@@ -3,17 +3,24 @@
 
 #![tactic(auto)]
 
+mod descriptor; // the file that the script has open on descriptor 3
 pub mod words; // what the numbers say in words
 
 ghost use Rattle.std.specs.Prelude.{◌≤◌, leb, length, ◌≡◌};
+ghost use Rattle.std.specs.Io.{ReadsAtMost};
 ghost use Rattle.programs.specs.Input.{Within};
 ghost use Rattle.programs.specs.Stack.{needed};
 
-use parsing::limits;
 use comparing::parts::same_part;
-use libc::types::rlimit;
-use libc::{RLIMIT_STACK, STDERR_FILENO, STDOUT_FILENO};
+use descriptor::open_answer;
+pub use descriptor::open_index;
 use meaning::Answer;
+use parsing::limits;
+use std::env::{Env, FillError};
+use std::fs::File;
+use std::io;
+use std::io::{Cursor, ErrorKind, Read, Write};
+use std::rt::Files;
 use verdicts::answers;
 
 // Room for a request and for a derivation, with a byte more, by which one that is too long is seen.
@@ -31,94 +38,189 @@ const SHORT_STACK_NEEDED: u64 = 6 * 1024 * 1024;
 
 const SHORT: usize = 1024;
 
-// The descriptor on which a script is told the answer of a program that writes bytes.
-pub const ANSWER_FILENO: i32 = 3;
+// The errors of the system that are made here, by their numbers: an argument that is missing, a name that is too long, and one that is no text.
+const INVALID_ARGUMENT: i32 = 22;
+
+const NAME_TOO_LONG: i32 = 36;
+
+const NO_TEXT: i32 = 84;
+
+// The system takes a name of fewer bytes.
+pub const NAME_ROOM: usize = 4096;
+
+// Room for what the system says of the process's limits, and for the words of an error.
+const LIMITS_ROOM: usize = 4096;
+
+const ERROR_ROOM: usize = 256;
 
 // A sign for each fluent, and the end of the line.
 const SIGNS: usize = limits::FLUENTS + 1;
 
-// How many bytes were read, or that they can't be.
+// How many bytes were read, or why they can't be.
 #[derive(Clone, Copy)]
 pub enum Input {
     Bytes(usize),
-    Unreadable,
+    Unreadable(io::Error),
+}
+
+// One read, and another where a signal interrupts it.
+fn read_some<R: Read>(input: &mut R, buf: &mut [u8]) -> io::Result<usize>
+    ensures { ReadsAtMost result buf.new }
+{
+    for _ in 0..u64::MAX {
+        match input.read(buf) {
+            Ok(n) => return Ok(n),
+            Err(error) => {
+                if error.kind() != ErrorKind::Interrupted {
+                    return Err(error);
+                }
+            }
+        }
+    }
+    Err(io::Error::from(ErrorKind::Interrupted))
 }
 
 // One read, behind the bytes that are there.
-fn read_on(fd: i32, buf: &mut [u8], done: usize) -> Input
+fn read_on<R: Read>(input: &mut R, buf: &mut [u8], done: usize) -> Input
     requires { done ≤ length buf.old }
     ensures { Within done result buf.new }
 {
-    let rest = &mut buf[done..];
-    let got = libc::read(fd, rest);
-    if got < 0 {
-        return Input::Unreadable;
+    match read_some(input, &mut buf[done..]) {
+        Ok(more) => Input::Bytes(more),
+        Err(error) => Input::Unreadable(error),
     }
-    let more = io::count(got, rest);
-    Input::Bytes(more)
 }
 
 // Reads until buf is full or the input ends.
-pub fn read_all(fd: i32, buf: &mut [u8]) -> Input
+pub fn read_all<R: Read>(input: &mut R, buf: &mut [u8]) -> Input
     ensures { Within 0 result buf.new }
 {
     let mut done = 0;
     while done < buf.len() {
-        match read_on(fd, buf, done) {
+        match read_on(input, buf, done) {
             Input::Bytes(more) => {
                 if more == 0 {
                     return Input::Bytes(done);
                 }
                 done += more;
             }
-            Input::Unreadable => return Input::Unreadable,
+            Input::Unreadable(error) => return Input::Unreadable(error),
         }
     }
     Input::Bytes(done)
 }
 
-// Reads the file of this name as far as buf goes. Where it can't be read a line says why, with `said` before the name.
-pub fn read_file(said: &[u8], name: &[u8], buf: &mut [u8]) -> Input
-    ensures { Within 0 result buf.new }
-{
-    let fd = os::open_read(name);
-    if fd < 0 {
-        say_failed(said, name);
-        return Input::Unreadable;
+// Opens the file of this name, which is text, for reading.
+fn open_named<R: Files>(rt: &R, name: &[u8]) -> io::Result<R::File> {
+    if name.len() >= NAME_ROOM {
+        return Err(io::Error::from_raw_os_error(NAME_TOO_LONG));
     }
-    match read_all(fd, buf) {
-        Input::Bytes(n) => {
-            libc::close(fd);
-            Input::Bytes(n)
-        }
-        Input::Unreadable => {
-            say_failed(said, name);
-            libc::close(fd);
-            Input::Unreadable
-        }
+    match str::from_utf8(name) {
+        Ok(name) => File::open(rt, name),
+        Err(_) => Err(io::Error::from_raw_os_error(NO_TEXT)),
     }
 }
 
-// What failed and errno's text, in a line on standard error. Writing `said` leaves errno as it is, unless that fails as well.
-fn say_failed(said: &[u8], what: &[u8]) {
-    io::write_all(STDERR_FILENO, said);
-    os::fail(what);
+// Reads the file of this name as far as buf goes.
+fn read_named<R: Files>(rt: &R, name: &[u8], buf: &mut [u8]) -> Input
+    ensures { Within 0 result buf.new }
+{
+    match open_named(rt, name) {
+        Ok(mut file) => read_all(&mut file, buf),
+        Err(error) => Input::Unreadable(error),
+    }
+}
+
+// Reads the file of this name as far as buf goes. Where it can't be read a line says why, with `said` before the name.
+pub fn read_file<R: Files, E: Write>(
+    rt: &R,
+    err: &mut E,
+    said: &[u8],
+    name: &[u8],
+    buf: &mut [u8],
+) -> Input
+    ensures { Within 0 result buf.new }
+{
+    let read = read_named(rt, name, buf);
+    if let Input::Unreadable(error) = read {
+        let _ = say_failed(err, said, name, error);
+    }
+    read
+}
+
+// What failed and why, in a line on standard error.
+pub fn fail<E: Write>(err: &mut E, what: &[u8], error: io::Error) {
+    let _ = say_failed(err, b"", what, error);
+}
+
+fn say_failed<E: Write>(err: &mut E, said: &[u8], what: &[u8], error: io::Error) -> io::Result<()> {
+    err.write_all(said)?;
+    err.write_all(what)?;
+    err.write_all(b": ")?;
+    put_reason(err, error)?;
+    err.write_all(b"\n")
+}
+
+// The error in words. Those of the system stand there without its number, which follows them in what std writes.
+fn put_reason<E: Write>(err: &mut E, error: io::Error) -> io::Result<()> {
+    let mut text = Cursor::new([0u8; ERROR_ROOM]);
+    write!(text, "{error}")?;
+    let length = text.position() as usize;
+    let bytes = text.into_inner();
+    if bytes.len() < length {
+        return Ok(());
+    }
+    match str::from_utf8(&bytes[..length]) {
+        Ok(words) => err.write_all(without_number(words).as_bytes()),
+        Err(_) => Ok(()),
+    }
+}
+
+fn without_number(words: &str) -> &str {
+    match words.split_once(" (os error ") {
+        Some((before, _)) => before,
+        None => words,
+    }
+}
+
+// How many words the program was started with, its own name among them.
+pub fn word_count(rt: &impl Env) -> usize {
+    let mut text = [0u8; 1];
+    for i in 0..usize::MAX {
+        if let Err(FillError::NotPresent) = rt.arg(i, &mut text) {
+            return i;
+        }
+    }
+    usize::MAX
+}
+
+// Argument i at the start of buf, and its length; or why it is not there.
+pub fn word_at(rt: &impl Env, i: usize, buf: &mut [u8]) -> io::Result<usize>
+    ensures { ReadsAtMost result buf.new }
+{
+    match rt.arg(i, buf) {
+        Ok(n) => Ok(n),
+        Err(FillError::TooLong) => Err(io::Error::from_raw_os_error(NAME_TOO_LONG)),
+        Err(FillError::NotPresent) => Err(io::Error::from_raw_os_error(INVALID_ARGUMENT)),
+    }
 }
 
 // Argument i of the program is this word.
-pub fn is_word(i: usize, word: &[u8]) -> bool {
-    let mut text = io::buffer();
-    let n = os::arg(i, &mut text);
-    same_part(&text[..n], word)
+pub fn is_word(rt: &impl Env, i: usize, word: &[u8]) -> bool {
+    let mut text = [0u8; NAME_ROOM];
+    match word_at(rt, i, &mut text) {
+        Ok(n) => same_part(&text[..n], word),
+        Err(_) => same_part(b"", word),
+    }
 }
 
 // The argument that is so many from the end, counted from 1, is this option.
-pub fn option_asked(from_end: usize, option: &[u8]) -> bool {
-    let count = os::arg_count();
+pub fn option_asked(rt: &impl Env, from_end: usize, option: &[u8]) -> bool {
+    let count = word_count(rt);
     if count <= from_end {
         return false;
     }
-    is_word(count - from_end, option)
+    is_word(rt, count - from_end, option)
 }
 
 // The number that an argument writes, or that it writes none.
@@ -154,33 +256,56 @@ pub fn number_of(text: &[u8]) -> Asked {
 }
 
 // The number that argument i writes. One that is missing, or longer than any number, writes none.
-pub fn number_at(i: usize) -> Asked {
-    let mut text = io::buffer();
-    let n = os::arg(i, &mut text);
-    number_of(&text[..n])
+pub fn number_at(rt: &impl Env, i: usize) -> Asked {
+    let mut text = [0u8; NAME_ROOM];
+    match word_at(rt, i, &mut text) {
+        Ok(n) => number_of(&text[..n]),
+        Err(_) => Asked::Nothing,
+    }
 }
 
 // The program has so many words of its name and options. Without an argument beside them BUDGET, and with one, which comes first, the number that it
 // writes.
-pub fn budget_asked(words: usize) -> Asked {
-    let count = os::arg_count();
+pub fn budget_asked(rt: &impl Env, words: usize) -> Asked {
+    let count = word_count(rt);
     if count <= words {
         return Asked::Number(BUDGET);
     }
     if count - words > 1 {
         return Asked::Nothing;
     }
-    number_at(1)
+    number_at(rt, 1)
 }
 
-// The soft limit of the process's stack in bytes. Asking for it does not fail, and where it did, the 0 would stay there.
-fn stack_limit() -> u64 {
-    let mut limit = rlimit {
-        rlim_cur: 0,
-        rlim_max: 0,
-    };
-    libc::getrlimit(RLIMIT_STACK, &mut limit);
-    limit.rlim_cur
+// The word behind this label, without the blanks between them.
+fn word_behind<'a>(text: &'a str, label: &str) -> Option<&'a str> {
+    let (_, behind) = text.split_once(label)?;
+    behind.split_whitespace().next()
+}
+
+// What the system says of the process in this file, as far as there is room for it.
+fn told_in<'a, R: Files>(rt: &R, name: &[u8], room: &'a mut [u8]) -> Option<&'a str> {
+    match read_named(rt, name, room) {
+        Input::Bytes(n) => str::from_utf8(&room[..n]).ok(),
+        Input::Unreadable(_) => None,
+    }
+}
+
+// The soft limit of the process's stack in bytes, which stands first in its line. Where the system doesn't tell it, it is 0.
+fn limit_told(text: &str) -> u64 {
+    match word_behind(text, "Max stack size") {
+        Some("unlimited") => u64::MAX,
+        Some(word) => word.parse::<u64>().unwrap_or(0),
+        None => 0,
+    }
+}
+
+fn stack_limit(rt: &impl Files) -> u64 {
+    let mut room = [0u8; LIMITS_ROOM];
+    match told_in(rt, b"/proc/self/limits", &mut room) {
+        Some(text) => limit_told(text),
+        None => 0,
+    }
 }
 
 // What the walk of a request of this length may need.
@@ -201,43 +326,59 @@ fn is_enough(needed: u64, limit: u64) -> bool
 }
 
 // There is stack enough to walk a request of this length. Where there is not, a line says so, with `said` and `name` at its start.
-pub fn stack_is_enough(said: &[u8], name: &[u8], length: usize) -> bool {
+pub fn stack_is_enough<R: Files, E: Write>(
+    rt: &R,
+    err: &mut E,
+    said: &[u8],
+    name: &[u8],
+    length: usize,
+) -> bool {
     let needed = stack_needed(length);
-    let limit = stack_limit();
+    let limit = stack_limit(rt);
     if is_enough(needed, limit) {
         return true;
     }
-    io::write_all(STDERR_FILENO, said);
-    io::write_all(STDERR_FILENO, name);
-    io::write_all(STDERR_FILENO, b": the stack is too small: a walk may need ");
-    io::print_decimal(STDERR_FILENO, needed);
-    io::write_all(STDERR_FILENO, b" bytes, and the limit is ");
-    io::print_decimal(STDERR_FILENO, limit);
-    io::write_all(STDERR_FILENO, b"\n");
+    let _ = say_too_small(err, said, name, needed, limit);
     false
 }
 
-pub fn put(bytes: &[u8]) -> bool {
-    io::write_all(STDOUT_FILENO, bytes)
+fn say_too_small<E: Write>(
+    err: &mut E,
+    said: &[u8],
+    name: &[u8],
+    needed: u64,
+    limit: u64,
+) -> io::Result<()> {
+    err.write_all(said)?;
+    err.write_all(name)?;
+    writeln!(
+        err,
+        ": the stack is too small: a walk may need {needed} bytes, and the limit is {limit}"
+    )
 }
 
-pub fn put_number(n: u64) -> bool {
-    io::print_decimal(STDOUT_FILENO, n)
+pub fn put(rt: &impl Print, bytes: &[u8]) -> io::Result<()> {
+    rt.write_all(bytes)
 }
 
-// A line with three numbers, on this descriptor.
-pub fn put_line(fd: i32, first: u64, second: u64, third: u64) -> bool {
-    io::print_decimal(fd, first)
-        && io::write_all(fd, b" ")
-        && io::print_decimal(fd, second)
-        && io::write_all(fd, b" ")
-        && io::print_decimal(fd, third)
-        && io::write_all(fd, b"\n")
+pub fn put_number(rt: &impl Print, n: u64) -> io::Result<()> {
+    rt.print(n)
 }
 
-fn put_answer(fd: i32, answer: Answer) -> bool {
+// A line with three numbers.
+pub fn put_line<W: Write>(to: &mut W, first: u64, second: u64, third: u64) -> io::Result<()> {
+    writeln!(to, "{first} {second} {third}")
+}
+
+// The same on descriptor 3, on which a script is told the answer of a program that writes bytes.
+pub fn tell<R: Files>(rt: &R, first: u64, second: u64, third: u64) -> io::Result<()> {
+    let mut script = open_answer(rt)?;
+    put_line(&mut script, first, second, third)
+}
+
+fn put_answer<W: Write>(to: &mut W, answer: Answer) -> io::Result<()> {
     put_line(
-        fd,
+        to,
         answer.number as u64,
         answer.place as u64,
         answer.count as u64,
@@ -245,24 +386,40 @@ fn put_answer(fd: i32, answer: Answer) -> bool {
 }
 
 // The bytes that a call has written to the start of a room, or for every answer but 0 the answer on standard error.
-fn put_start(answer: Answer, room: &[u8]) -> bool {
+fn put_start<E: Write>(
+    rt: &impl Print,
+    err: &mut E,
+    answer: Answer,
+    room: &[u8],
+) -> io::Result<()> {
     if answer.number != answers::VERIFIED {
-        return put_answer(STDERR_FILENO, answer);
+        return put_answer(err, answer);
     }
     let length = answer.count as usize;
     if room.len() < length {
-        return false;
+        return Err(io::Error::other("more was written than there is room for"));
     }
-    put(&room[..length])
+    put(rt, &room[..length])
 }
 
 // The same, and where the script asks for it, it is told the answer as well, of which it makes the exit status.
-pub fn put_written(answer: Answer, room: &[u8], told: bool) -> bool {
-    let written = put_start(answer, room);
-    if written && told {
-        return put_answer(ANSWER_FILENO, answer);
+pub fn put_written<R: Print + Files, E: Write>(
+    rt: &R,
+    err: &mut E,
+    answer: Answer,
+    room: &[u8],
+    told: bool,
+) -> io::Result<()> {
+    put_start(rt, err, answer, room)?;
+    if told {
+        return tell(
+            rt,
+            answer.number as u64,
+            answer.place as u64,
+            answer.count as u64,
+        );
     }
-    written
+    Ok(())
 }
 
 fn sign(mark: u8) -> u8 {
@@ -274,7 +431,7 @@ fn sign(mark: u8) -> u8 {
 }
 
 // The line with a sign for each fluent.
-pub fn put_state(state: &[u8; limits::FLUENTS], fluents: u8) -> bool {
+pub fn put_state(rt: &impl Print, state: &[u8; limits::FLUENTS], fluents: u8) -> io::Result<()> {
     let mut line = [b'\n'; SIGNS];
     let mut f = 0;
     while f < limits::FLUENTS {
@@ -285,51 +442,51 @@ pub fn put_state(state: &[u8; limits::FLUENTS], fluents: u8) -> bool {
         f += 1;
     }
     let end = f + 1;
-    put(&line[..end])
+    put(rt, &line[..end])
 }
 
 // The value that is known of fluent f, which is one less than its mark, or `?`. A space stands before it where f is not the first.
-fn put_value(f: usize, mark: u8) -> bool {
-    if f > 0 && !put(b" ") {
-        return false;
+fn put_value(rt: &impl Print, f: usize, mark: u8) -> io::Result<()> {
+    if f > 0 {
+        put(rt, b" ")?;
     }
     if mark == limits::UNKNOWN_MARK {
-        return put(b"?");
+        return put(rt, b"?");
     }
-    put_number((mark - 1) as u64)
+    put_number(rt, (mark - 1) as u64)
 }
 
 // The line with the value of each fluent.
-pub fn put_values(state: &[u8; limits::FLUENTS], fluents: u8) -> bool {
+pub fn put_values(rt: &impl Print, state: &[u8; limits::FLUENTS], fluents: u8) -> io::Result<()> {
     let mut f = 0;
     while f < limits::FLUENTS {
         if f >= fluents as usize {
             break;
         }
-        if !put_value(f, state[f]) {
-            return false;
-        }
+        put_value(rt, f, state[f])?;
         f += 1;
     }
-    put(b"\n")
+    put(rt, b"\n")
 }
 
 // A number behind a space.
-fn put_apart(fd: i32, number: u8) -> bool {
-    io::write_all(fd, b" ") && io::print_decimal(fd, number as u64)
+fn put_apart<W: Write>(to: &mut W, number: u8) -> io::Result<()> {
+    write!(to, " {number}")
 }
 
 // The first so many numbers of a row that has a place for each fluent, each behind a space.
-pub fn put_counted(fd: i32, row: &[u8; limits::FLUENTS], count: usize) -> bool {
+pub fn put_counted<W: Write>(
+    to: &mut W,
+    row: &[u8; limits::FLUENTS],
+    count: usize,
+) -> io::Result<()> {
     let mut i = 0;
     while i < limits::FLUENTS {
         if i >= count {
             break;
         }
-        if !put_apart(fd, row[i]) {
-            return false;
-        }
+        put_apart(to, row[i])?;
         i += 1;
     }
-    true
+    Ok(())
 }

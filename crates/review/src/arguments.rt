@@ -1,8 +1,8 @@
 // What the program is asked by its arguments (FORMAT 12.30, 12.31), which the script has put in order: a command, for `judge` a budget, files.
-ghost use Rattle.std.specs.Prelude.{◌≤◌};
-ghost use Rattle.io.specs.Counts.{IsPrefixLen};
+ghost use Rattle.std.specs.Prelude.{◌≡◌, ◌≤◌, length, take};
 
-use programs::{Asked, is_word, number_at};
+use programs::{Asked, is_word, number_at, word_at};
+use std::env::Env;
 
 // What is to be done with the files.
 #[derive(Clone, Copy)]
@@ -19,23 +19,23 @@ pub enum Found {
 }
 
 // The command that argument i is. The budget of `judge` is the argument after it.
-pub fn command_at(i: usize) -> Found
+pub fn command_at(rt: &impl Env, i: usize) -> Found
     requires { i ≤ 2 }
 {
-    if is_word(i, b"check") {
+    if is_word(rt, i, b"check") {
         return Found::Command(Command::Check);
     }
-    if is_word(i, b"check-whether") {
+    if is_word(rt, i, b"check-whether") {
         return Found::Command(Command::CheckWhether);
     }
-    if is_word(i, b"judge") {
-        return judge_within(i + 1);
+    if is_word(rt, i, b"judge") {
+        return judge_within(rt, i + 1);
     }
     Found::Nothing
 }
 
-fn judge_within(i: usize) -> Found {
-    match number_at(i) {
+fn judge_within(rt: &impl Env, i: usize) -> Found {
+    match number_at(rt, i) {
         Asked::Number(budget) => Found::Command(Command::Judge(budget)),
         Asked::Nothing => Found::Nothing,
     }
@@ -64,12 +64,12 @@ pub fn files_of(command: Command) -> usize
 }
 
 // The name that argument i is. Of one that is longer than any file's it is as many bytes as buf has, and no file can be opened by these.
-pub fn name_at(i: usize, buf: &mut [u8]) -> usize
-    ensures { IsPrefixLen result buf.new }
+pub fn name_at(rt: &impl Env, i: usize, buf: &mut [u8]) -> usize
+    ensures in_bounds { result ≤ length buf.new }
+    ensures counted { result ≡ length (take result buf.new) }
 {
-    let n = os::arg(i, buf);
-    if os::errno() != 0 {
-        return buf.len();
+    match word_at(rt, i, buf) {
+        Ok(n) => n,
+        Err(_) => buf.len(),
     }
-    n
 }

@@ -10,19 +10,11 @@ ghost use Rattle.std.specs.Prelude.{◌≤◌};
 
 use answering::{Outcome, outcome_at};
 use arguments::{Command, Found, command_at, files_from, files_of};
-use libc::STDERR_FILENO;
-use programs::{is_word, put, put_line, put_number};
-
-// The descriptor on which the script is told the tally.
-const TALLY_FILENO: i32 = 3;
-
-fn is_unwritten(outcome: Outcome) -> bool {
-    if let Outcome::Unwritten = outcome {
-        true
-    } else {
-        false
-    }
-}
+use programs::{fail, is_word, put, put_number, word_count};
+use std::env::Env;
+use std::io;
+use std::io::Write;
+use std::rt::Files;
 
 // What an outcome adds to those that pass.
 fn passing(outcome: Outcome) -> usize
@@ -43,32 +35,46 @@ fn missing(outcome: Outcome) -> usize
 }
 
 // The last line, where there is more than one answer.
-fn put_sum(asked: usize, passed: usize, unanswered: usize) -> bool {
+fn put_sum(rt: &impl Print, asked: usize, passed: usize, unanswered: usize) -> io::Result<()> {
     if asked < 2 {
-        return true;
+        return Ok(());
     }
-    put(b"in all: ")
-        && put_number(passed as u64)
-        && put(b" of ")
-        && put_number(asked as u64)
-        && put(b" pass, ")
-        && put_number(unanswered as u64)
-        && put(b" without an answer\n")
+    put(rt, b"in all: ")?;
+    put_number(rt, passed as u64)?;
+    put(rt, b" of ")?;
+    put_number(rt, asked as u64)?;
+    put(rt, b" pass, ")?;
+    put_number(rt, unanswered as u64)?;
+    put(rt, b" without an answer\n")
 }
 
 // The sum, and where the script asks for it the tally that the exit status is made of.
-fn tell(tallied: bool, asked: usize, passed: usize, unanswered: usize) {
-    if !put_sum(asked, passed, unanswered) {
-        os::fail(b"review: standard output");
+fn tell<R: Print + Files, E: Write>(
+    rt: &R,
+    err: &mut E,
+    tallied: bool,
+    asked: usize,
+    passed: usize,
+    unanswered: usize,
+) {
+    if let Err(error) = put_sum(rt, asked, passed, unanswered) {
+        fail(err, b"review: standard output", error);
         return;
     }
     if tallied {
-        put_line(TALLY_FILENO, asked as u64, passed as u64, unanswered as u64);
+        let _ = programs::tell(rt, asked as u64, passed as u64, unanswered as u64);
     }
 }
 
 // An answer for each file or two from argument `first` on, until one can't be printed.
-fn review_all(tallied: bool, command: Command, first: usize, count: usize) {
+fn review_all<R: Print + io::Input + Env + Files, E: Write>(
+    rt: &R,
+    err: &mut E,
+    tallied: bool,
+    command: Command,
+    first: usize,
+    count: usize,
+) {
     let each = files_of(command);
     let mut i = first;
     let mut asked = 0;
@@ -79,9 +85,9 @@ fn review_all(tallied: bool, command: Command, first: usize, count: usize) {
             break;
         }
         let next = i + each;
-        let outcome = outcome_at(command, i, next - 1);
-        if is_unwritten(outcome) {
-            os::fail(b"review: standard output");
+        let outcome = outcome_at(rt, err, command, i, next - 1);
+        if let Outcome::Unwritten(error) = outcome {
+            fail(err, b"review: standard output", error);
             return;
         }
         asked += 1;
@@ -89,45 +95,58 @@ fn review_all(tallied: bool, command: Command, first: usize, count: usize) {
         unanswered += missing(outcome);
         i = next;
     }
-    tell(tallied, asked, passed, unanswered);
+    tell(rt, err, tallied, asked, passed, unanswered);
 }
 
-fn say_misused() {
-    io::write_all(
-        STDERR_FILENO,
+fn say_misused<E: Write>(err: &mut E) {
+    let _ = err.write_all(
         b"review: judge BUDGET FILE..., check REQUEST DERIVATION... or check-whether REQUEST DERIVATION... is needed\n",
     );
 }
 
 // The files are those from argument `first` on, and there are as many as whole answers take.
-fn review_files(tallied: bool, command: Command, first: usize) {
-    let count = os::arg_count();
+fn review_files<R: Print + io::Input + Env + Files, E: Write>(
+    rt: &R,
+    err: &mut E,
+    tallied: bool,
+    command: Command,
+    first: usize,
+) {
+    let count = word_count(rt);
     let each = files_of(command);
     if count <= first {
-        say_misused();
+        say_misused(err);
         return;
     }
     if (count - first) % each != 0 {
-        say_misused();
+        say_misused(err);
         return;
     }
-    review_all(tallied, command, first, count);
+    review_all(rt, err, tallied, command, first, count);
 }
 
 // The command is argument i.
-fn review_from(tallied: bool, i: usize)
+fn review_from<R: Print + io::Input + Env + Files, E: Write>(
+    rt: &R,
+    err: &mut E,
+    tallied: bool,
+    i: usize,
+)
     requires { i ≤ 2 }
 {
-    match command_at(i) {
-        Found::Command(command) => review_files(tallied, command, files_from(command, i)),
-        Found::Nothing => say_misused(),
+    match command_at(rt, i) {
+        Found::Command(command) => {
+            review_files(rt, err, tallied, command, files_from(command, i))
+        }
+        Found::Nothing => say_misused(err),
     }
 }
 
-fn main() {
-    if is_word(1, b"--tally") {
-        review_from(true, 2);
+fn main(rt: HostRuntime) {
+    let mut err = rt.stderr();
+    if is_word(&rt, 1, b"--tally") {
+        review_from(&rt, &mut err, true, 2);
         return;
     }
-    review_from(false, 1);
+    review_from(&rt, &mut err, false, 1);
 }

@@ -1,74 +1,86 @@
 // The lines that an answer is told by, below the one with its words (FORMAT 12.35 to 12.37).
-use parsing::limits;
 use glintstring::showing::show;
 use meaning::Answer;
+use parsing::limits;
 use programs::{put, put_number, put_state};
+use std::io;
+use std::io::ErrorKind;
 use verdicts::answers;
 
 // How many bytes are printed of the part that an answer is about.
 const SHOWN: usize = 16;
 
-pub fn put_numbers(answer: Answer) -> bool {
-    put(b"  number ")
-        && put_number(answer.number as u64)
-        && put(b", place ")
-        && put_number(answer.place as u64)
-        && put(b", count ")
-        && put_number(answer.count as u64)
-        && put(b"\n")
+pub fn put_numbers(rt: &impl Print, answer: Answer) -> io::Result<()> {
+    put(rt, b"  number ")?;
+    put_number(rt, answer.number as u64)?;
+    put(rt, b", place ")?;
+    put_number(rt, answer.place as u64)?;
+    put(rt, b", count ")?;
+    put_number(rt, answer.count as u64)?;
+    put(rt, b"\n")
 }
 
 // The state, for answers 1 and 2. The first byte of a request that gets one of these is its fluent count.
-pub fn put_known(number: u8, state: &[u8; limits::FLUENTS], request: &[u8]) -> bool {
+pub fn put_known(
+    rt: &impl Print,
+    number: u8,
+    state: &[u8; limits::FLUENTS],
+    request: &[u8],
+) -> io::Result<()> {
     if number == answers::GOAL_MISSED || number == answers::NOT_EXECUTABLE {
         if request.len() == 0 {
-            return false;
+            return Err(io::Error::from(ErrorKind::InvalidData));
         }
-        return put(b"  state ") && put_state(state, request[0]);
+        put(rt, b"  state ")?;
+        return put_state(rt, state, request[0]);
     }
-    true
+    Ok(())
 }
 
 // The bytes that the answer is about, where it names an input.
-pub fn put_part<'a>(answer: Answer, request: &'a [u8], derivation: &'a [u8]) -> bool {
+pub fn put_part<'a>(
+    rt: &impl Print,
+    answer: Answer,
+    request: &'a [u8],
+    derivation: &'a [u8],
+) -> io::Result<()> {
     let input = answer.input;
     let place = answer.place;
     if input == answers::NEITHER_INPUT {
-        return true;
+        return Ok(());
     }
     let part = show(answer, request, derivation);
-    put_input(input)
-        && put(b" from ")
-        && put_number(place as u64)
-        && put(b":")
-        && put_bytes(part)
-        && put(b"\n")
+    put_input(rt, input)?;
+    put(rt, b" from ")?;
+    put_number(rt, place as u64)?;
+    put(rt, b":")?;
+    put_bytes(rt, part)?;
+    put(rt, b"\n")
 }
 
-fn put_input(input: u8) -> bool {
+fn put_input(rt: &impl Print, input: u8) -> io::Result<()> {
     if input == answers::THE_DERIVATION {
-        return put(b"  derivation");
+        return put(rt, b"  derivation");
     }
-    put(b"  request")
+    put(rt, b"  request")
 }
 
-fn put_bytes(part: &[u8]) -> bool {
+fn put_bytes(rt: &impl Print, part: &[u8]) -> io::Result<()> {
     if part.len() == 0 {
-        return put(b" it ends there");
+        return put(rt, b" it ends there");
     }
     let mut i = 0;
     while i < part.len() {
         if i == SHOWN {
-            return put(b" ...");
+            return put(rt, b" ...");
         }
-        if !put_byte(part[i]) {
-            return false;
-        }
+        put_byte(rt, part[i])?;
         i += 1;
     }
-    true
+    Ok(())
 }
 
-fn put_byte(byte: u8) -> bool {
-    put(b" ") && put_number(byte as u64)
+fn put_byte(rt: &impl Print, byte: u8) -> io::Result<()> {
+    put(rt, b" ")?;
+    put_number(rt, byte as u64)
 }

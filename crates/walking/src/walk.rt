@@ -86,7 +86,7 @@ pub fn walk(s: &[u8], t: &Notes, at: usize, marks: Marks, tally: &mut Tally)
         let slot = notes::ITEM_PLACE + i;
         let p = get(t, slot);
         if s[p] == limits::BRANCHING_BYTE {
-            walk_branching(s, t, i, &state, tally);
+            walk_branching(s, t, i, state, tally);
             return;
         }
         let a = wide(s[p]);
@@ -131,24 +131,24 @@ pub fn walk(s: &[u8], t: &Notes, at: usize, marks: Marks, tally: &mut Tally)
 
 // The branching that is item i, in a state that lacks no guard.
 #[cycle(fork_higher_values_walk_walk_branching)]
-fn walk_branching(s: &[u8], t: &Notes, i: usize, marks: &Marks, tally: &mut Tally)
+fn walk_branching(s: &[u8], t: &Notes, i: usize, marks: Marks, tally: &mut Tally)
     requires at_hand { AtHand (form_in t.now) s.now t.now }
-    requires marks_value { (step_in (form_in t.now) s.now t.now).lacks marks.now ≡ nowhere }
+    requires marks_value { (step_in (form_in t.now) s.now t.now).lacks marks ≡ nowhere }
     requires i_bound { i < items_of (plan_in (form_in t.now) s.now t.now) }
     requires i_value { action_at s.now t.now i ≡ 255 }
-    requires fit { Fit s.now t.now marks.now }
+    requires fit { Fit s.now t.now marks }
     requires going { Going tally.old }
-    ensures { standing tally.new ≡ add (standing tally.old) (walk_from (form_in t.now) s.now t.now i marks.now) }
+    ensures { standing tally.new ≡ add (standing tally.old) (walk_from (form_in t.now) s.now t.now i marks) }
 {
-    match chosen(s, t, i, marks) {
+    match chosen(s, t, i, &marks) {
         Found::At(at) => {
-            walk(s, t, at, *marks, tally);
+            walk(s, t, at, marks, tally);
             return;
         }
         Found::Nowhere => {
             let slot = notes::ITEM_PLACE + i;
             let p = get(t, slot);
-            note(tally, tally::STUCK, p, marks);
+            note(tally, tally::STUCK, p, &marks);
             return;
         }
     }
