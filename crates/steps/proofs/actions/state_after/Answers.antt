@@ -1,5 +1,6 @@
 -- A turn tells or undoes what the first of the action's effects that are left asks for; what is left then gives what the whole gives, and effect
 -- numbers rise in file order. At the end that is the state after, since 16 has passed and the action can be run.
+use Rattle.std.proofs.Common.{arith}
 use Rattle.finding.proofs.AheadLaws.{line_few, line_less}
 use Rattle.steps.proofs.ActionLaws.{sweeping_starts, effect_body, effect_body_fits, effect_one_fits, effect_one_there, effect_fluent, sweep_known, sweep_told, sweep_unknown, look_told, look_undone, look_kept}
 use Rattle.steps.proofs.AfterLaws.{after_swept}
@@ -51,7 +52,7 @@ pub loop-k-smaller-else-known : goal.loop-k-smaller-else-known
 loop-k-smaller-else-known c = search line_less
 
 pub loop-k-preserved-else-known : goal.loop-k-preserved-else-known
-loop-k-preserved-else-known c = sweep_unknown _ _ _ _ _ _ c.loop-k.invariant c.loop-k-test.true _ _ c.line_place-p.ensures c.next_line-k.ensures _ _ c.wide-l.ensures c.mark_of-mark.ensures c.if-next-f.false _ c.each_holds-known.ensures c.if-known.false c.if-next-f-eq0.true
+loop-k-preserved-else-known c = sweep_unknown _ _ _ _ _ _ c.loop-k.invariant c.loop-k-test.true _ _ c.line_place-p.ensures c.next_line-k.ensures _ _ c.wide-l.ensures c.mark_of-mark.ensures c.if-next-f.false _ c.each_holds-known.ensures c.if-known.false (omega arith)
 
 pub look_at-requires : goal.look_at-requires
 look_at-requires c = search effect_body
