@@ -119,7 +119,7 @@ fn proved() -> PathBuf {
     }
     let since = Instant::now();
     let sources = root.join("crates/glintstring_c");
-    let status = Command::new("rt").arg("lib").current_dir(&sources).status();
+    let status = Command::new("rt").args(["lib", "--cpu", "x86-64"]).current_dir(&sources).status();
     let instead = format!("Set {VARIABLE} to a folder that has {ARCHIVE} to do without it");
     match status {
         Err(error) => fail(format!("`rt`, the Rattle toolchain, cannot be run ({error}). {instead}")),
