@@ -2,72 +2,30 @@
 
 #![tactic(auto)]
 
-ghost use Rattle.programs.specs.Input.{Within};
-
 use glintstring::check_calls::{check, check_whether};
 use meaning::Answer;
-use programs::{
-    DERIVATION_ROOM, Input, NAME_ROOM, REQUEST_ROOM, fail, is_word, put_line, read_file, word_at,
-    word_count,
-};
+use programs::{DERIVATION_ROOM, REQUEST_ROOM, fail, is_word, read_argument, word_count};
 use std::env::Env;
 use std::io;
 use std::io::Write;
 use std::rt::Files;
 
-// Reads the file that the program's argument i names.
-fn read_argument<R: Env + Files, E: Write>(rt: &R, err: &mut E, i: usize, buf: &mut [u8]) -> Input
-    ensures { Within 0 result buf.new }
-{
-    let mut name = [0u8; NAME_ROOM];
-    match word_at(rt, i, &mut name) {
-        Ok(n) => read_file(rt, err, b"", &name[..n], buf),
-        Err(error) => {
-            fail(err, b"audit: file name", error);
-            Input::Unreadable(error)
-        }
-    }
-}
-
 fn answer_to(whether: bool, request: &[u8], derivation: &[u8]) -> Answer {
     if whether {
-        return check_whether(request, derivation);
-    }
-    check(request, derivation)
-}
-
-fn put_answer<R: Print, E: Write>(
-    rt: &R,
-    err: &mut E,
-    whether: bool,
-    request: &[u8],
-    derivation: &[u8],
-) {
-    let answer = answer_to(whether, request, derivation);
-    if let Err(error) = put_line(
-        &mut io::writer(rt),
-        answer.number as u64,
-        answer.input as u64,
-        answer.place as u64,
-    ) {
-        fail(err, b"audit: standard output", error);
+        check_whether(request, derivation)
+    } else {
+        check(request, derivation)
     }
 }
 
-// The derivation that argument i names, once the request is read.
-fn audit<R: Print + Env + Files, E: Write>(
-    rt: &R,
-    err: &mut E,
-    whether: bool,
-    request: &[u8],
-    i: usize,
-) {
-    // One byte more than a derivation may have: a longer one is refused whatever it holds.
-    let mut bytes = [0u8; DERIVATION_ROOM];
-    match read_argument(rt, err, i, &mut bytes) {
-        Input::Bytes(n) => put_answer(rt, err, whether, request, &bytes[..n]),
-        Input::Unreadable(_) => return,
-    }
+fn put_answer(rt: &impl Print, answer: Answer) -> io::Result<()> {
+    let Answer {
+        number,
+        input,
+        place,
+        ..
+    } = answer;
+    println!(rt; "{number} {input} {place}")
 }
 
 // The request that argument i names, and the derivation that argument j names.
@@ -78,11 +36,18 @@ fn audit_files<R: Print + Env + Files, E: Write>(
     i: usize,
     j: usize,
 ) {
-    // One byte more than a request may have.
-    let mut bytes = [0u8; REQUEST_ROOM];
-    match read_argument(rt, err, i, &mut bytes) {
-        Input::Bytes(n) => audit(rt, err, whether, &bytes[..n], j),
-        Input::Unreadable(_) => return,
+    // One byte more than a request or a derivation may have: a longer one is refused whatever it holds.
+    let mut request = [0u8; REQUEST_ROOM];
+    let mut derivation = [0u8; DERIVATION_ROOM];
+    let Ok(n) = read_argument(rt, err, "audit", "", i, &mut request) else {
+        return;
+    };
+    let Ok(m) = read_argument(rt, err, "audit", "", j, &mut derivation) else {
+        return;
+    };
+    let answer = answer_to(whether, &request[..n], &derivation[..m]);
+    if let Err(error) = put_answer(rt, answer) {
+        fail(err, "audit: standard output", error);
     }
 }
 
@@ -90,21 +55,20 @@ fn main(rt: HostRuntime) {
     let mut err = rt.stderr();
     let count = word_count(&rt);
     // The option for derivations in the closing layout.
-    if is_word(&rt, 1, b"--whether") {
-        if count != 4 {
-            let _ = err.write_all(
-                b"audit: two file names are needed: audit REQUEST DERIVATION, or audit --whether REQUEST DERIVATION\n",
-            );
-            return;
-        }
+    let whether = is_word(&rt, 1, b"--whether");
+    if whether && count == 4 {
         audit_files(&rt, &mut err, true, 2, 3);
-        return;
-    }
-    if count != 3 {
-        let _ = err.write_all(
-            b"audit: two file names are needed, a request's and a derivation's\n",
+    } else if whether {
+        let _ = writeln!(
+            err,
+            "audit: two file names are needed: audit REQUEST DERIVATION, or audit --whether REQUEST DERIVATION"
         );
-        return;
+    } else if count == 3 {
+        audit_files(&rt, &mut err, false, 1, 2);
+    } else {
+        let _ = writeln!(
+            err,
+            "audit: two file names are needed, a request's and a derivation's"
+        );
     }
-    audit_files(&rt, &mut err, false, 1, 2);
 }

@@ -5,11 +5,12 @@ use native.Mathlib.Omega.{arith}
 use mathlib.Core.Path.{◌≡◌, refl, sym, ◌∙◌, ap, ap₂, subst}
 use mathlib.Core.Bool.{Bool, true, false}
 use mathlib.Core.List.{List, [], ◌∷◌, map}
+use Rattle.std.specs.List.{list_any}
 use lib.ListN.{length, get_or}
 use lib.Dec.{leb, ltb, eqb}
 use mir.Syntax.{w64}
 use mir.Val.{Fits}
-use borrow.Author.Tests.{ltb-true, eqb-true, lt-ltb, le-ltb, le-leb, lt-leb, eq-eqb, ne_eqb}
+use borrow.Author.Tests.{ltb-true, leb-true, eqb-true, lt-ltb, le-ltb, le-leb, lt-leb, eq-eqb, ne_eqb}
 use Rattle.meaning.specs.declared.Form.TheVariants.{Flags}
 use Rattle.meaning.specs.declared.Layout.{Layout}
 use Rattle.meaning.specs.declared.Layout.TheVariants.{Plain, Closing}
@@ -36,29 +37,33 @@ unfolding fails
 no_fail true e = refl
 no_fail false e = clash e refl
 
-pub no_rule : (layout : Layout) (rule : ℕ) → rule < 1 → false ≡ a_rule layout rule
-unfolding a_rule both either
-no_rule Plain rule h = rw (lt-leb 1 rule h) refl
-no_rule Closing rule h = rw (lt-leb 1 rule h, lt-leb 10 rule (omega (arith, h))) refl
+module _ (layout : Layout) (rule : ℕ) where
+  outside : (from to : ℕ) → (from ≤ rule → rule ≤ to → ⊥) → false ≡ both (leb from rule) (leb rule to)
+  outside from to out = by-test (both (leb from rule) (leb rule to)) (λ t. absurd (out (leb-true from rule (both_left _ _ t)) (leb-true rule to (both_right _ _ t)))) sym
 
-module _ (layout : Layout) (rule : ℕ) (least : 1 ≤ rule) where
-  pub plain_rule : layout ≡ Plain → leb rule 6 ≡ a_rule layout rule
-  unfolding a_rule both
-  plain_rule plain = rw (plain, le-leb 1 rule least) refl
+  module _ (plain : layout ≡ Plain) where
+    pub plain_rule : 1 ≤ rule → rule ≤ 6 → true ≡ a_rule layout rule
+    unfolding a_rule both
+    plain_rule least most = rw (plain, le-leb 1 rule least, le-leb rule 6 most) refl
+
+    pub no_plain_rule : (1 ≤ rule → rule ≤ 6 → ⊥) → false ≡ a_rule layout rule
+    unfolding a_rule
+    no_plain_rule out = rw plain (outside 1 6 out)
 
   module _ (closing : layout ≡ Closing) where
-    pub early_rule : rule ≤ 8 → true ≡ a_rule layout rule
+    pub early_rule : 1 ≤ rule → rule ≤ 8 → true ≡ a_rule layout rule
     unfolding a_rule both either
-    early_rule h = rw (closing, le-leb 1 rule least, le-leb rule 8 h) refl
+    early_rule least most = rw (closing, le-leb 1 rule least, le-leb rule 8 most) refl
 
-    module _ (above : 8 < rule) where
-      pub between_rules : rule < 10 → false ≡ a_rule layout rule
-      unfolding a_rule both either
-      between_rules h = rw (closing, le-leb 1 rule least, lt-leb rule 8 above, lt-leb 10 rule h) refl
+    pub late_rule : 10 ≤ rule → rule ≤ 12 → true ≡ a_rule layout rule
+    unfolding a_rule both either
+    late_rule least most =
+        let above : 8 < rule = omega (arith, least) in
+        rw (closing, le-leb 1 rule (omega (arith, least)), lt-leb rule 8 above, le-leb 10 rule least, le-leb rule 12 most) refl
 
-      pub late_rule : 10 ≤ rule → leb rule 12 ≡ a_rule layout rule
-      unfolding a_rule both either
-      late_rule h = rw (closing, le-leb 1 rule least, lt-leb rule 8 above, le-leb 10 rule h) refl
+    pub no_closing_rule : (1 ≤ rule → rule ≤ 8 → ⊥) → (10 ≤ rule → rule ≤ 12 → ⊥) → false ≡ a_rule layout rule
+    unfolding a_rule either
+    no_closing_rule early late = rw (closing, sym (outside 1 8 early)) (outside 10 12 late)
 
 -- The rule that asks the same of lists.
 module _ (rule : ℕ) where
@@ -87,34 +92,16 @@ abbrev Counts : List ℕ
 Counts = 1 ∷ 2 ∷ 4 ∷ 8 ∷ 16 ∷ 32 ∷ 64 ∷ []
 
 module _ (count : ℕ) where
-  pub reads_one : count ≡ 1 → true ≡ among count Counts
+  any_among : (xs : List ℕ) → list_any (λ y. eqb y count) xs ≡ among count xs
   unfolding among some_of either
-  reads_one e = rw e refl
+  any_among [] = refl
+  any_among (x ∷ xs) =
+      by-test (eqb x count)
+      (λ t. let same = eqb-true x count t in rw (t, eq-eqb count x (sym same)) refl)
+      (λ f. rw (f, ne_eqb count x (λ e. clash (eq-eqb x count (sym e)) f)) (any_among xs))
 
-  pub reads_two : count ≡ 2 → true ≡ among count Counts
-  unfolding among some_of either
-  reads_two e = rw e refl
-
-  pub reads_four : count ≡ 4 → true ≡ among count Counts
-  unfolding among some_of either
-  reads_four e = rw e refl
-
-  pub reads_eight : count ≡ 8 → true ≡ among count Counts
-  unfolding among some_of either
-  reads_eight e = rw e refl
-
-  pub reads_sixteen : count ≡ 16 → true ≡ among count Counts
-  unfolding among some_of either
-  reads_sixteen e = rw e refl
-
-  pub reads_thirty_two : count ≡ 32 → true ≡ among count Counts
-  unfolding among some_of either
-  reads_thirty_two e = rw e refl
-
-  pub reads_last : (count ≡ 1 → ⊥) → (count ≡ 2 → ⊥) → (count ≡ 4 → ⊥) → (count ≡ 8 → ⊥) → (count ≡ 16 → ⊥) → (count ≡ 32 → ⊥) → eqb count 64 ≡ among count Counts
-  unfolding among some_of either
-  reads_last a b c d e f =
-      rw (ne_eqb count 1 a, ne_eqb count 2 b, ne_eqb count 4 c, ne_eqb count 8 d, ne_eqb count 16 e, ne_eqb count 32 f) (alone count 64)
+  pub reads_told : (r : Bool) → r ≡ list_any (λ y. eqb y count) Counts → r ≡ among count Counts
+  reads_told r is = is ∙ any_among Counts
 
 module _ (rule : ℕ) where
   takes_two : rule ≡ 5 → citations_taken rule ≡ 2 ∷ []
@@ -127,13 +114,16 @@ module _ (rule : ℕ) where
       pick_false _ _ _ (ne_eqb _ _ not_1) ∙ pick_false _ _ _ (ne_eqb _ _ not_2) ∙ pick_false _ _ _ (ne_eqb _ _ not_3) ∙ pick_false _ _ _ (ne_eqb _ _ not-5) ∙ pick_false _ _ _ (ne_eqb _ _ not-7)
 
   module _ (count : ℕ) where
-    pub takes_empty : rule ≡ 1 → eqb count 0 ≡ among count (citations_taken rule)
+    takes_empty : rule ≡ 1 → eqb count 0 ≡ among count (citations_taken rule)
     unfolding citations_taken pick
     takes_empty e = rw e (alone count 0)
 
-    pub takes_action : rule ≡ 2 → eqb count 0 ≡ among count (citations_taken rule)
+    takes_action : rule ≡ 2 → eqb count 0 ≡ among count (citations_taken rule)
     unfolding citations_taken pick
     takes_action e = rw e (alone count 0)
+
+    pub takes_early : 1 ≤ rule → rule ≤ 2 → eqb count 0 ≡ among count (citations_taken rule)
+    takes_early least most = by-test (eqb rule 1) (λ t. takes_empty (eqb-true rule 1 t)) (λ f. let not : rule ≡ 1 → ⊥ = λ e. clash (eq-eqb rule 1 e) f in takes_action (omega arith))
 
     pub takes_sensing : rule ≡ 3 → (r : Bool) → r ≡ among count Counts → r ≡ among count (citations_taken rule)
     unfolding citations_taken pick
@@ -199,10 +189,9 @@ module _ (t : Table) (rule : ℕ) (cited : List Line) (l : Line) where
       pick_false _ _ _ (ne_eqb _ _ not_1) ∙ pick_false _ _ _ (ne_eqb _ _ not_2) ∙ pick_false _ _ _ (ne_eqb _ _ not_3) ∙ pick_false _ _ _ (ne_eqb _ _ not-4)
       ∙ pick_false _ _ _ (ne_eqb _ _ not-5) ∙ pick_false _ _ _ (ne_eqb _ _ not-6) ∙ pick_false _ _ _ (ne_eqb _ _ not-7)
 
--- EARLIER LINES. The numbers from `cites` on are as good as those from `at` on.
-pub record Earlier (d : List ℕ) (cites count i left at : ℕ) : Type 0 where
-  pub same : all_below i (numbers_from d cites count) ≡ all_below i (numbers_from d at left)
-  pub room : at + 2 * left ≤ length d
+-- EARLIER LINES. The numbers from `cites` on are as good as those from number k on.
+pub record Earlier (d : List ℕ) (cites count i k : ℕ) : Type 0 where
+  pub same : all_below i (numbers_from d cites count) ≡ all_below i (numbers_from d (cites + 2 * k) (count - k))
 
 numbers_next : (d : List ℕ) (at left : ℕ) → 0 < left → numbers_from d at left ≡ (get_or d at 0 * 256 + get_or d (at + 1) 0) ∷ numbers_from d (at + 2) (left - 1)
 unfolding numbers_from
@@ -210,39 +199,32 @@ numbers_next d at zero h = absurd (omega (arith, h))
 numbers_next d at (suc left) h = let same : suc left - 1 ≡ left = omega arith in rw same refl
 
 module _ (d : List ℕ) (cites count i : ℕ) where
-  pub earlier_start : cites + 2 * count ≤ length d → Earlier d cites count i count cites
-  earlier_start room = record { same = refl; room = room }
+  pub earlier_start : Earlier d cites count i 0
+  earlier_start =
+      let at : cites ≡ cites + 2 * 0 = omega arith in
+      let left : count ≡ count - 0 = omega arith in
+      record { same = ap₂ {C = Bool} (λ (p n : ℕ). all_below i (numbers_from d p n)) at left }
 
-  module _ (left at : ℕ) (so_far : Earlier d cites count i left at) where
-    pub earlier_done : left ≤ 0 → true ≡ all_below i (numbers_from d cites count)
+  module _ (k : ℕ) (so_far : Earlier d cites count i k) where
+    pub earlier_done : count ≤ k → true ≡ all_below i (numbers_from d cites count)
     unfolding numbers_from all_below each_of
-    earlier_done h = let none : left ≡ 0 = omega (arith, h) in sym (so_far.same ∙ ap (λ (j : ℕ). all_below i (numbers_from d at j)) none)
+    earlier_done h = let none : count - k ≡ 0 = omega (arith, h) in sym (so_far.same ∙ ap (λ (j : ℕ). all_below i (numbers_from d (cites + 2 * k) j)) none)
 
-    module _ (more : 0 < left) where
-      pub number_first : at < length d
-      number_first = let room = so_far.room in omega (arith, room, more)
+    module _ (more : k < count) (number : ℕ) (read : number ≡ get_or d (cites + 2 * k) 0 * 256 + get_or d (cites + 2 * k + 1) 0) where
+      on : all_below i (numbers_from d cites count) ≡ both (ltb number i) (all_below i (numbers_from d (cites + 2 * (k + 1)) (count - (k + 1))))
+      unfolding all_below each_of
+      on =
+          let at : cites + 2 * k + 2 ≡ cites + 2 * (k + 1) = omega arith in
+          let left : count - k - 1 ≡ count - (k + 1) = omega arith in
+          so_far.same ∙ ap (all_below i) (numbers_next d (cites + 2 * k) (count - k) (omega (arith, more))) ∙ rw (sym read, at, left) refl
 
-      pub number_second : at + 1 < length d
-      number_second = let room = so_far.room in omega (arith, room, more)
+      pub earlier_not : i ≤ number → false ≡ all_below i (numbers_from d cites count)
+      unfolding both
+      earlier_not h = sym (on ∙ rw (le-ltb number i h) refl)
 
-      pub number_fits : Fits w64 (length d) → Fits w64 (at + 1)
-      number_fits long = let room = so_far.room in let most = long.fits in record { fits = omega (arith, room, more, most) }
-
-      pub next_fits : Fits w64 (length d) → Fits w64 (at + 2)
-      next_fits long = let room = so_far.room in let most = long.fits in record { fits = omega (arith, room, more, most) }
-
-      module _ (number : ℕ) (read : number ≡ get_or d at 0 * 256 + get_or d (at + 1) 0) where
-        on : all_below i (numbers_from d cites count) ≡ both (ltb number i) (all_below i (numbers_from d (at + 2) (left - 1)))
-        unfolding all_below each_of
-        on = so_far.same ∙ ap (all_below i) (numbers_next d at left more) ∙ rw (sym read) refl
-
-        pub earlier_not : i ≤ number → false ≡ all_below i (numbers_from d cites count)
-        unfolding both
-        earlier_not h = sym (on ∙ rw (le-ltb number i h) refl)
-
-        pub earlier_next : number < i → Earlier d cites count i (left - 1) (at + 2)
-        unfolding both
-        earlier_next h = let room = so_far.room in record { same = on ∙ rw (lt-ltb number i h) refl; room = omega (arith, room, more) }
+      pub earlier_next : number < i → Earlier d cites count i (k + 1)
+      unfolding both
+      earlier_next h = record { same = on ∙ rw (lt-ltb number i h) refl }
 
 numbers_are : (d : List ℕ) (p : ℕ) (ks : List ℕ) → NumbersStand d p ks → numbers_from d p (length ks) ≡ ks
 unfolding NumbersStand numbers_from

@@ -189,10 +189,10 @@ module _ (r : Request) (d : List ℕ) (w : Spot) (asked : Asked) (begun : Bool) 
       unfolding conclusion_asked
       is_fluent = rw fluent refl
 
-      pub fluent_not_list : w.fluent ≡ false → Ruled d w (asks_for r (conclusion_asked r asked)) false
+      pub fluent_not_list : w.fluent ≡ false → Ruled d w (asks_for r (conclusion_asked r asked)) w.fluent
       fluent_not_list e =
           record {
-            holds = λ l stands. sym (asks_as (knows_whether f) is_fluent l stands ∙ fluent_other d w.conclusion w.fluent e l.Y stands.Y f);
+            holds = λ l stands. e ∙ sym (asks_as (knows_whether f) is_fluent l stands ∙ fluent_other d w.conclusion w.fluent e l.Y stands.Y f);
           }
 
       pub fluent_asked : w.fluent ≡ true → Ruled d w (asks_for r (conclusion_asked r asked)) (eqb (get_or d w.conclusion 0) f)

@@ -2,20 +2,19 @@ ghost use Rattle.std.specs.Prelude.{◌≡◌, [], ◌∷◌, ◌+◌, ◌*◌, 
 ghost use Rattle.meaning.specs.Limits.{format};
 ghost use Rattle.meaning.specs.Literals.{among};
 ghost use Rattle.meaning.specs.Derivations.{for_lists, citations_taken, a_rule, cited_by, given_by, check_lines};
-ghost use Rattle.parsing.specs.Read.{passed};
+ghost use Rattle.parsing.specs.Read.{over, passed};
 ghost use Rattle.steps.specs.Held.{table_in};
 ghost use Rattle.steps.specs.AtHand.{AtHand};
-ghost use Rattle.checking.specs.Checked.{lines_in, line_in, spot_in, AllStand, Numbered, CitesEarlier, all_below, numbers_from, refused_by};
+ghost use Rattle.checking.specs.Checked.{lines_in, line_in, spot_in, AllStand, Numbered, CitesEarlier, all_below, numbers_from, refused_by, number_or_none};
 ghost use Rattle.meaning.specs.declared.Form.TheVariants.{Flags};
 
-use super::refusal_numbers;
 use comparing::spots::{Spot, spot_of};
 use derivation::derivations::Places;
 use derivation::derived::place_of;
 use derivation::rule_numbers as rules;
 use meaning::Layout;
 use parsing::bytes::{two, wide};
-use parsing::lists::Passed;
+use parsing::faults::{Fault, Refusal};
 use reading::notes::Notes;
 use ruling::branchings::rule_4;
 use ruling::readings::rule_3;
@@ -25,20 +24,12 @@ use ruling::rules::{rule_1, rule_2, rule_5, rule_6, rule_7, rule_8};
 fn is_rule(layout: Layout, rule: usize) -> bool
     ensures { result ≡ a_rule layout rule }
 {
-    if rule < rules::EMPTY_RULE {
-        return false;
-    }
     match layout {
-        Layout::Plain => rule <= rules::CONSEQUENCE_RULE,
-        Layout::Closing => {
-            if rule <= rules::LITERAL_RULE {
-                return true;
-            }
-            if rule < rules::SENSING_WHETHER_RULE {
-                return false;
-            }
-            rule <= rules::BRANCHING_WHETHER_RULE
-        }
+        Layout::Plain => matches!(rule, rules::EMPTY_RULE..=rules::CONSEQUENCE_RULE),
+        Layout::Closing => matches!(
+            rule,
+            rules::EMPTY_RULE..=rules::LITERAL_RULE | rules::SENSING_WHETHER_RULE..=rules::BRANCHING_WHETHER_RULE
+        ),
     }
 }
 
@@ -46,63 +37,31 @@ fn is_rule(layout: Layout, rule: usize) -> bool
 fn rule_for_lists(rule: usize) -> usize
     ensures { result ≡ for_lists rule }
 {
-    if rule == rules::SENSING_WHETHER_RULE {
-        return rules::SENSING_RULE;
+    match rule {
+        rules::SENSING_WHETHER_RULE => rules::SENSING_RULE,
+        rules::COMPOSITION_WHETHER_RULE => rules::COMPOSITION_RULE,
+        rules::BRANCHING_WHETHER_RULE => rules::BRANCHING_RULE,
+        _ => rule,
     }
-    if rule == rules::COMPOSITION_WHETHER_RULE {
-        return rules::COMPOSITION_RULE;
-    }
-    if rule == rules::BRANCHING_WHETHER_RULE {
-        return rules::BRANCHING_RULE;
-    }
-    rule
 }
 
 // One for each reading of some fluents, six at the most.
 fn readings(count: usize) -> bool
     ensures { result ≡ among count (1 ∷ 2 ∷ 4 ∷ 8 ∷ 16 ∷ 32 ∷ 64 ∷ []) }
 {
-    if count == 1 {
-        return true;
-    }
-    if count == 2 {
-        return true;
-    }
-    if count == 4 {
-        return true;
-    }
-    if count == 8 {
-        return true;
-    }
-    if count == 16 {
-        return true;
-    }
-    if count == 32 {
-        return true;
-    }
-    count == 64
+    [1, 2, 4, 8, 16, 32, 64].contains(&count)
 }
 
 // The rule, one for lists or 7 or 8, takes this number of citations.
 fn takes(rule: usize, count: usize) -> bool
     ensures { result ≡ among count (citations_taken rule) }
 {
-    if rule == rules::EMPTY_RULE {
-        return count == 0;
+    match rule {
+        rules::EMPTY_RULE | rules::ACTION_RULE | rules::LOOK_RULE => count == 0,
+        rules::SENSING_RULE => readings(count),
+        rules::COMPOSITION_RULE => count == 2,
+        _ => count == 1,
     }
-    if rule == rules::ACTION_RULE {
-        return count == 0;
-    }
-    if rule == rules::SENSING_RULE {
-        return readings(count);
-    }
-    if rule == rules::COMPOSITION_RULE {
-        return count == 2;
-    }
-    if rule == rules::LOOK_RULE {
-        return count == 0;
-    }
-    count == 1
 }
 
 // Each of the numbers from `cites` on is below i.
@@ -110,16 +69,11 @@ fn all_earlier(d: &[u8], cites: usize, count: usize, i: usize) -> bool
     requires { cites + 2 * count ≤ length d.now }
     ensures { result ≡ all_below i (numbers_from d.now cites count) }
 {
-    let mut left = count;
-    let mut at = cites;
-    while 0 < left {
-        let second = at + 1;
-        let number = two(d[at], d[second]);
-        if i <= number {
+    for k in 0..count {
+        let at = cites + 2 * k;
+        if i <= two(d[at], d[at + 1]) {
             return false;
         }
-        at += 2;
-        left -= 1;
     }
     true
 }
@@ -158,18 +112,13 @@ fn gives(
     if rule == rules::LOOK_RULE {
         return rule_7(s, t, d, l);
     }
-    let at = l.cites;
-    let high = at + 1;
-    let low = at + 2;
-    let one = two(d[high], d[low]);
+    let one = two(d[l.cites + 1], d[l.cites + 2]);
     let cited = spot_of(layout, d, places, lines, one);
     if rule == rules::BRANCHING_RULE {
         return rule_4(n, m, d, u, cited, l);
     }
     if rule == rules::COMPOSITION_RULE {
-        let next = at + 3;
-        let last = at + 4;
-        let other = two(d[next], d[last]);
+        let other = two(d[l.cites + 3], d[l.cites + 4]);
         let second = spot_of(layout, d, places, lines, other);
         return rule_5(d, cited, second, l);
     }
@@ -179,7 +128,7 @@ fn gives(
     rule_8(d, cited, l)
 }
 
-// Line i: 31, 33, 32 or 34; 0 where it follows.
+// Why line i is refused: 31, 33, 32 or 34; nothing where it follows.
 fn line_refused(
     layout: Layout,
     n: usize,
@@ -191,33 +140,27 @@ fn line_refused(
     places: &Places,
     lines: usize,
     i: usize,
-) -> u8
+) -> Option<Refusal>
     requires at_hand { AtHand Flags s.now t.now }
     requires numbered { Numbered layout n m d.now places.now lines i }
-    ensures { result ≡ refused_by layout (table_in Flags s.now) (lines_in layout n m d.now) i (line_in layout n m d.now i) }
+    ensures { number_or_none result ≡ refused_by layout (table_in Flags s.now) (lines_in layout n m d.now) i (line_in layout n m d.now i) }
 {
     let l = spot_of(layout, d, places, lines, i);
-    let known = is_rule(layout, l.rule);
-    if known {
-        let rule = rule_for_lists(l.rule);
-        let at = l.cites;
-        let count = wide(d[at]);
-        let right = takes(rule, count);
-        if right {
-            let cites = at + 1;
-            let earlier = all_earlier(d, cites, count, i);
-            if earlier {
-                let good = gives(layout, n, m, s, t, d, u, places, lines, i, l, rule);
-                if good {
-                    return 0;
-                }
-                return refusal_numbers::DOES_NOT_FOLLOW;
-            }
-            return refusal_numbers::NOT_EARLIER;
-        }
-        return refusal_numbers::CITATIONS_NOT_TAKEN;
+    if !is_rule(layout, l.rule) {
+        return Some(Refusal::NoSuchRule);
     }
-    refusal_numbers::NO_SUCH_RULE
+    let rule = rule_for_lists(l.rule);
+    let count = wide(d[l.cites]);
+    if !takes(rule, count) {
+        return Some(Refusal::CitationsNotTaken);
+    }
+    if !all_earlier(d, l.cites + 1, count, i) {
+        return Some(Refusal::NotEarlier);
+    }
+    if !gives(layout, n, m, s, t, d, u, places, lines, i, l, rule) {
+        return Some(Refusal::DoesNotFollow);
+    }
+    None
 }
 
 // Line by line 31, 33, 32, 34.
@@ -231,19 +174,15 @@ pub fn check_lines(
     u: &mut Notes,
     places: &Places,
     lines: usize,
-) -> Passed
+) -> Result<usize, Fault>
     requires at_hand { AtHand Flags s.now t.now }
     requires all_stand { AllStand layout n m d.now places.now lines }
-    ensures { result ≡ passed (check_lines format layout (table_in Flags s.now) (lines_in layout n m d.now) 0 (lines_in layout n m d.now)) }
+    ensures { over result ≡ passed (check_lines format layout (table_in Flags s.now) (lines_in layout n m d.now) 0 (lines_in layout n m d.now)) }
 {
-    let mut i = 0;
-    while i < lines {
-        let number = line_refused(layout, n, m, s, t, d, u, places, lines, i);
-        if 0 < number {
-            let p = place_of(places, i);
-            return Passed::Fault(number, p);
+    for i in 0..lines {
+        if let Some(refusal) = line_refused(layout, n, m, s, t, d, u, places, lines, i) {
+            return Err(refusal.at(place_of(places, i)));
         }
-        i += 1;
     }
-    Passed::To(0)
+    Ok(0)
 }

@@ -9,7 +9,6 @@ ghost use Rattle.comparing.specs.RuleAnswers.{SomeStands, SomeLines, Ruled};
 ghost use Rattle.checking.specs.Asked.{conclusion_asked, begins, Names, SomeDerivation, EntriesChecked, ClosingChecked, EndChecked};
 ghost use Rattle.meaning.specs.declared.Form.TheVariants.{Flags};
 
-use super::refusal_numbers;
 use comparing::parts::same_lists;
 use comparing::plans::same_plans;
 use comparing::spots::{Spot, spot_of};
@@ -19,7 +18,7 @@ use derivation::derived::place_of;
 use finding::branches::sequence_of;
 use meaning::{Form, Layout};
 use parsing::bytes::{two, wide};
-use parsing::lists::Passed;
+use parsing::faults::{Fault, Refusal};
 use reading::notes;
 use reading::notes::{Notes, get};
 
@@ -36,16 +35,9 @@ fn from_the_facts(s: &[u8], t: &Notes, d: &[u8], l: Spot) -> bool
     requires some_stands { SomeStands d.now l }
     ensures { Ruled d.now l (begins (request_in Flags s.now t.now)) result }
 {
-    let p = l.line;
-    let starts = same_lists(d, p, s, 2);
-    if starts {
-        let plan = sequence_of(Form::Flags, d, p);
-        let e = l.end;
-        let asked = get(t, notes::PLAN);
-        let goals = get(t, notes::GOALS);
-        return same_plans(d, plan, e, s, asked, goals);
-    }
-    false
+    let plan = sequence_of(Form::Flags, d, l.line);
+    same_lists(d, l.line, s, 2)
+        && same_plans(d, plan, l.end, s, get(t, notes::PLAN), get(t, notes::GOALS))
 }
 
 // The line is the question for what is asked: the initial facts, the plan, and that conclusion.
@@ -54,26 +46,13 @@ fn asks(s: &[u8], t: &Notes, d: &[u8], l: Spot, asked: Asked) -> bool
     requires some_stands { SomeStands d.now l }
     ensures { Ruled d.now l (asks_for (request_in Flags s.now t.now) (conclusion_asked (request_in Flags s.now t.now) asked)) result }
 {
-    let starts = from_the_facts(s, t, d, l);
-    if starts {
-        let y = l.conclusion;
-        match asked {
-            Asked::Goals => {
-                if l.fluent {
-                    return false;
-                }
-                let goals = get(t, notes::GOALS);
-                return same_lists(d, y, s, goals);
-            }
-            Asked::Fluent(f) => {
-                if l.fluent {
-                    return d[y] == f;
-                }
-                return false;
-            }
-        }
+    if !from_the_facts(s, t, d, l) {
+        return false;
     }
-    false
+    match asked {
+        Asked::Goals => !l.fluent && same_lists(d, l.conclusion, s, get(t, notes::GOALS)),
+        Asked::Fluent(f) => l.fluent && d[l.conclusion] == f,
+    }
 }
 
 // The two-byte number at `at` is that of a line, and this is the question for what is asked.
@@ -91,13 +70,15 @@ fn names(
     requires at_in_bounds { at + 1 < length d.now }
     ensures { Names (request_in Flags s.now t.now) d.now places.now lines at asked result }
 {
-    let second = at + 1;
-    let number = two(d[at], d[second]);
-    if number < lines {
-        let l = spot_of(Layout::Closing, d, places, lines, number);
-        return asks(s, t, d, l, asked);
-    }
-    false
+    let number = two(d[at], d[at + 1]);
+    number < lines
+        && asks(
+            s,
+            t,
+            d,
+            spot_of(Layout::Closing, d, places, lines, number),
+            asked,
+        )
 }
 
 // Each entry of the whether list at `whether` is asked of the line that is named by the next number, the first of which is at `first`.
@@ -109,30 +90,38 @@ fn check_fluents(
     lines: usize,
     whether: usize,
     first: usize,
-) -> Passed
+) -> Result<usize, Fault>
     requires at_hand { AtHand Flags s.now t.now }
     requires some_lines { SomeLines Closing d.now places.now lines }
     requires list_here { ListHere format.fluents s.now whether }
     requires whether_in_bounds { first + 2 * get_or s.now whether 0 ≤ length d.now }
     ensures { EntriesChecked s.now t.now d.now places.now lines whether first result }
 {
-    let end = whether + wide(s[whether]);
-    let mut i = whether;
-    let mut at = first;
-    while i < end {
-        i += 1;
-        let good = names(s, t, d, places, lines, at, Asked::Fluent(s[i]));
-        if good {
-            at += 2;
-            continue;
+    for k in 0..wide(s[whether]) {
+        let at = first + 2 * k;
+        if !names(
+            s,
+            t,
+            d,
+            places,
+            lines,
+            at,
+            Asked::Fluent(s[whether + k + 1]),
+        ) {
+            return Err(Refusal::ClosingNotRight.at(at));
         }
-        return Passed::Fault(refusal_numbers::CLOSING_NOT_RIGHT, at);
     }
-    Passed::To(0)
+    Ok(0)
 }
 
 // The closing list: its length, then the goals, then each whether entry.
-fn check_closing(s: &[u8], t: &Notes, d: &[u8], places: &Places, lines: usize) -> Passed
+fn check_closing(
+    s: &[u8],
+    t: &Notes,
+    d: &[u8],
+    places: &Places,
+    lines: usize,
+) -> Result<usize, Fault>
     requires at_hand { AtHand Flags s.now t.now }
     requires some_derivation { SomeDerivation Closing d.now places.now lines }
     ensures { ClosingChecked (request_in Flags s.now t.now) d.now places.now lines result }
@@ -143,15 +132,13 @@ fn check_closing(s: &[u8], t: &Notes, d: &[u8], places: &Places, lines: usize) -
     let closing = place_of(places, derivations::LINES_END);
     let count = wide(d[closing]);
     if count != due {
-        return Passed::Fault(refusal_numbers::CLOSING_NOT_RIGHT, closing);
+        return Err(Refusal::ClosingNotRight.at(closing));
     }
     let first = closing + 1;
-    let good = names(s, t, d, places, lines, first, Asked::Goals);
-    if good {
-        let next = closing + 3;
-        return check_fluents(s, t, d, places, lines, whether, next);
+    if !names(s, t, d, places, lines, first, Asked::Goals) {
+        return Err(Refusal::ClosingNotRight.at(first));
     }
-    Passed::Fault(refusal_numbers::CLOSING_NOT_RIGHT, first)
+    check_fluents(s, t, d, places, lines, whether, closing + 3)
 }
 
 // The question, by the last line or by the closing list. Answered: the place 0.
@@ -162,7 +149,7 @@ pub fn check_end(
     d: &[u8],
     places: &Places,
     lines: usize,
-) -> Passed
+) -> Result<usize, Fault>
     requires at_hand { AtHand Flags s.now t.now }
     requires some_derivation { SomeDerivation layout d.now places.now lines }
     requires le_lines { 1 ≤ lines }
@@ -170,13 +157,12 @@ pub fn check_end(
 {
     match layout {
         Layout::Plain => {
-            let last = lines - 1;
-            let l = spot_of(Layout::Plain, d, places, lines, last);
-            let asked = asks(s, t, d, l, Asked::Goals);
-            if asked {
-                return Passed::To(0);
+            let l = spot_of(Layout::Plain, d, places, lines, lines - 1);
+            if asks(s, t, d, l, Asked::Goals) {
+                Ok(0)
+            } else {
+                Err(Refusal::NotTheQuestion.at(l.line))
             }
-            Passed::Fault(refusal_numbers::NOT_THE_QUESTION, l.line)
         }
         Layout::Closing => check_closing(s, t, d, places, lines),
     }

@@ -20,8 +20,8 @@ use Rattle.meaning.specs.Derivations.{Conclusion, Line, Derivation, Concluded, c
 use Rattle.meaning.proofs.TestLaws.{by-test, clash, either_left, either_right, pick-cases}
 use Rattle.meaning.proofs.SettledLaws.{got_same, refuse_got}
 use Rattle.meaning.proofs.RangeLaws.{not_refused, after_got, count_within, repeated_length}
-use Rattle.parsing.specs.declared.lists.Passed.{Passed}
-use Rattle.parsing.specs.declared.lists.Passed.TheVariants.{To}
+use Rattle.std.specs.Prelude.{Ok}
+use Rattle.parsing.specs.Read.{Passed}
 use Rattle.reading.specs.Noted.{noting, outcome}
 use Rattle.reading.specs.Planned.{bytes_of}
 use Rattle.derivation.specs.DerivationRead.{plan_end, derivation_noted, settled_derivation, plan_ends_slot, places_slots}
@@ -296,12 +296,12 @@ module _ (n m : ℕ) (d : List ℕ) where
         closing = closing_stands layout q ks i closes;
       })
 
-  read_as : (layout : Layout) (t places : List ℕ) (x : Derivation) (e : ℕ) → read_derivation format n m d layout ≡ got x e → places ≡ derivation_noted x t → (r : Passed) → r ≡ To e
+  read_as : (layout : Layout) (t places : List ℕ) (x : Derivation) (e : ℕ) → read_derivation format n m d layout ≡ got x e → places ≡ derivation_noted x t → (r : Passed) → r ≡ Ok e
       → outcome r places ≡ noting derivation_noted (read_derivation format n m d layout) t
   unfolding outcome noting next
   read_as layout t places x e whole put r is = rw (is, whole, put) refl
 
-  pub derived_whole : (layout : Layout) (t places : List ℕ) (r : Passed) → outcome r places ≡ noting derivation_noted (settled_derivation layout n m d) t → (e : ℕ) → r ≡ To e → length t ≡ places_slots → SomeDerived layout n m d places e
+  pub derived_whole : (layout : Layout) (t places : List ℕ) (r : Passed) → outcome r places ≡ noting derivation_noted (settled_derivation layout n m d) t → (e : ℕ) → r ≡ Ok e → length t ≡ places_slots → SomeDerived layout n m d places e
   unfolding settled_derivation
   derived_whole layout t places r read e is long =
       let w = noting_got derivation_noted (settled_derivation layout n m d) r t places read e is in

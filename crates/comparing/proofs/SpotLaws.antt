@@ -112,16 +112,16 @@ module _ (layout : Layout) (d : List ℕ) (p e : ℕ) where
         pub fluent_fits : SomeAt layout d p e → Fits w64 (length d) → Fits w64 (e + 2)
         fluent_fits some room = let counted = (fluently some (kind is)).counted in let most = room.fits in record { fits = omega arith }
 
-        pub fluent_spot : record { line = p; end = e; conclusion = e + 1; cites = e + 2; rule = rule; fluent = true } ≡ spot_at layout d p e
-        fluent_spot = rw (closing, spot_fluent d p e (kind is), read) refl
+        pub fluent_spot : (cites : ℕ) → cites ≡ e + 2 → record { line = p; end = e; conclusion = e + 1; cites = cites; rule = rule; fluent = fluent } ≡ spot_at layout d p e
+        fluent_spot cites after = rw (closing, spot_fluent d p e (kind is), read, after, is) refl
 
       module _ (is : fluent ≡ false) where
         pub closing_list : SomeAt layout d p e → ListHere all_literals d (e + 1)
         closing_list some = list_there d false (e + 1) some.line.Y (by_list some (kind is)).Y refl
 
-        pub list_spot : (cites : ℕ) → cites ≡ sequence_place Flags d (e + 1) → record { line = p; end = e; conclusion = e + 1; cites = cites; rule = rule; fluent = false } ≡ spot_at layout d p e
+        pub list_spot : (cites after : ℕ) → cites ≡ after → after ≡ sequence_place Flags d (e + 1) → record { line = p; end = e; conclusion = e + 1; cites = cites; rule = rule; fluent = fluent } ≡ spot_at layout d p e
         unfolding sequence_place after_list
-        list_spot cites after = rw (closing, spot_list d p e (kind is), read, after) refl
+        list_spot cites after same place = rw (closing, spot_list d p e (kind is), read, same, place, is) refl
 
 -- LINE k. What is asked past the last line is no line.
 no_line : Line

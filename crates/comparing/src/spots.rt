@@ -30,40 +30,30 @@ fn spot_at(layout: Layout, d: &[u8], p: usize, e: usize) -> Spot
     match layout {
         Layout::Plain => {
             let at = sequence_of(Form::Flags, d, e);
-            let rule = wide(d[at]);
-            let cites = at + 1;
             Spot {
                 line: p,
                 end: e,
                 conclusion: e,
-                cites: cites,
-                rule: rule,
+                cites: at + 1,
+                rule: wide(d[at]),
                 fluent: false,
             }
         }
         Layout::Closing => {
             let rule = wide(d[e]);
-            let y = e + 1;
             let fluent = gives_fluent(rule);
-            if fluent {
-                let after = e + 2;
-                return Spot {
-                    line: p,
-                    end: e,
-                    conclusion: y,
-                    cites: after,
-                    rule: rule,
-                    fluent: true,
-                };
-            }
-            let cites = sequence_of(Form::Flags, d, y);
+            let cites = if fluent {
+                e + 2
+            } else {
+                sequence_of(Form::Flags, d, e + 1)
+            };
             Spot {
                 line: p,
                 end: e,
-                conclusion: y,
-                cites: cites,
-                rule: rule,
-                fluent: false,
+                conclusion: e + 1,
+                cites,
+                rule,
+                fluent,
             }
         }
     }
@@ -75,9 +65,7 @@ pub fn spot_of(layout: Layout, d: &[u8], places: &Places, lines: usize, k: usize
     requires k_lt_lines { k < lines }
     ensures { result ≡ spot_at layout d.now (get_or places.now k 0) (get_or places.now (plan_ends_slot + k) 0) }
 {
-    let p = place_of(places, k);
-    let e = end_of(places, k);
-    spot_at(layout, d, p, e)
+    spot_at(layout, d, place_of(places, k), end_of(places, k))
 }
 
 // Two lines have the same conclusion.
@@ -86,16 +74,9 @@ pub fn same_conclusions(d: &[u8], one: Spot, other: Spot) -> bool
     requires some_concluded_2 { SomeConcluded d.now other }
     ensures { SameConclusions d.now one other result }
 {
-    let p = one.conclusion;
-    let q = other.conclusion;
-    if one.fluent {
-        if other.fluent {
-            return d[p] == d[q];
-        }
-        return false;
+    match (one.fluent, other.fluent) {
+        (true, true) => d[one.conclusion] == d[other.conclusion],
+        (false, false) => same_lists(d, one.conclusion, d, other.conclusion),
+        _ => false,
     }
-    if other.fluent {
-        return false;
-    }
-    same_lists(d, p, d, q)
 }

@@ -5,8 +5,7 @@
 use glintstring::derives::derive;
 use parsing::limits;
 use programs::{
-    Asked, Input, REQUEST_ROOM, budget_asked, fail, option_asked, put_written, read_all,
-    stack_is_enough,
+    answer_input, budget_asked, option_asked, put_written, say_budget, stack_is_enough,
 };
 use std::io;
 use std::io::Write;
@@ -20,7 +19,7 @@ fn answer_to<R: Print + Files, E: Write>(
     budget: u32,
     told: bool,
 ) -> io::Result<()> {
-    if !stack_is_enough(rt, err, b"derive", b"", request.len()) {
+    if !stack_is_enough(rt, err, "derive", b"", request.len()) {
         return Ok(());
     }
     // Room for every derivation that is written.
@@ -29,33 +28,16 @@ fn answer_to<R: Print + Files, E: Write>(
     put_written(rt, err, answer, &room, told)
 }
 
-fn derive_input<R: Print + io::Input + Files, E: Write>(
-    rt: &R,
-    err: &mut E,
-    budget: u32,
-    told: bool,
-) {
-    // One byte more than a request may have: a longer one is refused whatever it holds.
-    let mut bytes = [0u8; REQUEST_ROOM];
-    match read_all(&mut rt.reader(), &mut bytes) {
-        Input::Bytes(n) => {
-            if let Err(error) = answer_to(rt, err, &bytes[..n], budget, told) {
-                fail(err, b"derive: standard output", error);
-            }
-        }
-        Input::Unreadable(error) => fail(err, b"derive: standard input", error),
-    }
-}
-
 fn main(rt: HostRuntime) {
     let mut err = rt.stderr();
     let told = option_asked(&rt, 1, b"--answer");
     // Beside a budget there are the program's name, and that word.
     let words = if told { 2 } else { 1 };
-    match budget_asked(&rt, words) {
-        Asked::Number(budget) => derive_input(&rt, &mut err, budget, told),
-        Asked::Nothing => {
-            let _ = err.write_all(b"derive: a budget is a decimal number up to 4294967295\n");
-        }
-    }
+    let Some(budget) = budget_asked(&rt, words) else {
+        say_budget(&mut err, "derive");
+        return;
+    };
+    answer_input(&rt, &mut err, "derive", |err, request| {
+        answer_to(&rt, err, request, budget, told)
+    });
 }

@@ -9,6 +9,10 @@ use lib.Dec.{ltb, leb, eqb}
 use mir.Syntax.{w8}
 use mir.Val.{Fits}
 use borrow.Author.Tests.{eq-eqb, ne_eqb, lt-ltb, le-ltb, le-leb, lt-leb, leb-true, leb-false}
+use Rattle.std.specs.Prelude.{Ok, Err}
+use Rattle.parsing.specs.Faults.{number_of}
+use Rattle.parsing.specs.Read.{Passed}
+use Rattle.parsing.specs.declared.faults.Fault.{Fault}
 use Rattle.meaning.specs.declared.Answer.{Answer}
 use Rattle.meaning.specs.declared.Layout.TheVariants.{Plain}
 use Rattle.meaning.specs.Limits.{format}
@@ -26,8 +30,6 @@ use Rattle.meaning.proofs.TestLaws.{by-test, pick_true, pick_false}
 use Rattle.meaning.proofs.VerifiedLaws.{within_unread}
 use Rattle.meaning.proofs.WithinLaws.{fine_within}
 use Rattle.meaning.proofs.NarrowWalks.{narrow_never}
-use Rattle.parsing.specs.declared.lists.Passed.{Passed}
-use Rattle.parsing.specs.declared.lists.Passed.TheVariants.{To, Fault as Stop}
 use Rattle.meaning.specs.declared.Form.TheVariants.{Flags}
 use Rattle.reading.specs.Noted.{goals_slot, mode_slot, slots, noting, outcome}
 use Rattle.reading.specs.Requested.{request_noted}
@@ -201,12 +203,12 @@ module _ (s t : List ℕ) (here : AtHand Flags s t) (goals : ℕ) (slot : goals 
 
 -- THE CALL.
 module _ (s room : List ℕ) (budget : ℕ) (a : Answer) (t u : List ℕ) (r : Passed) (settles : outcome r u ≡ noting (request_noted Flags) (settled format s) t) where
-  pub derive_refused : (k p : ℕ) → r ≡ Stop k p → a ≡ record { number = k; input = 1; place = p; count = 0 } → record { answer = a; room = room } ≡ derive format s room budget
+  pub derive_refused : (why : Fault) → r ≡ Err why → a ≡ record { number = number_of why.refusal; input = 1; place = why.place; count = 0 } → record { answer = a; room = room } ≡ derive format s room budget
   unfolding derive derive_got unwritten answer
-  derive_refused k p stops is =
-      ap (λ (b : Answer). record { answer = b; room = room }) is ∙ sym (ap (derive_got format room budget) (noting_fault (request_noted Flags) (settled format s) r t u settles k p stops))
+  derive_refused why stops is =
+      ap (λ (b : Answer). record { answer = b; room = room }) is ∙ sym (ap (derive_got format room budget) (noting_fault (request_noted Flags) (settled format s) r t u settles why stops))
 
-  pub derive_so : (e : ℕ) → r ≡ To e → ((j : ℕ) → Fits w8 (get_or s j 0)) → t ≡ blank → (left : List ℕ) → record { answer = a; room = left } ≡ derive_got format room budget (got (request_in Flags s u) 0)
+  pub derive_so : (e : ℕ) → r ≡ Ok e → ((j : ℕ) → Fits w8 (get_or s j 0)) → t ≡ blank → (left : List ℕ) → record { answer = a; room = left } ≡ derive_got format room budget (got (request_in Flags s u) 0)
       → record { answer = a; room = left } ≡ derive format s room budget
   unfolding derive derive_got
   derive_so e passes bytes empty left is =

@@ -6,6 +6,8 @@ use mathlib.Core.List.{List, []}
 use lib.ListN.{length, get_or, set}
 use mir.Syntax.{w8}
 use mir.Val.{Fits}
+use Rattle.std.specs.Prelude.{Ok}
+use Rattle.parsing.specs.Read.{Passed}
 use Rattle.meaning.specs.Limits.{format}
 use Rattle.meaning.specs.Requests.{Request}
 use Rattle.meaning.specs.Reading.{got, literals_in, read_request}
@@ -18,8 +20,6 @@ use Rattle.meaning.specs.ByCases.{walked_by_cases}
 use Rattle.meaning.specs.Guards.{GuardedRequest, settled_guarded}
 use Rattle.meaning.proofs.SettledLaws.{got_same, refuse_got, next_got, Settled, settled_is}
 use Rattle.meaning.proofs.GuardedReads.{guarded_past}
-use Rattle.parsing.specs.declared.lists.Passed.{Passed}
-use Rattle.parsing.specs.declared.lists.Passed.TheVariants.{To}
 use Rattle.meaning.specs.declared.Form.TheVariants.{Flags, Valued}
 use Rattle.reading.specs.Noted.{mode_slot, slots, noting, outcome}
 use Rattle.reading.specs.Requested.{request_noted, guarded_noted}
@@ -34,7 +34,7 @@ use Rattle.steps.proofs.JustRead.{plain_at_hand, plain_request, plain_table, pla
 use Rattle.verdicts.proofs.WalkedLaws.{flags_mode, plain_mode, values_there}
 
 -- WITHOUT GUARDS.
-module _ (s t u : List ℕ) (r : Passed) (settles : outcome r u ≡ noting (request_noted Flags) (settled format s) t) (e : ℕ) (passes : r ≡ To e) where
+module _ (s t u : List ℕ) (r : Passed) (settles : outcome r u ≡ noting (request_noted Flags) (settled format s) t) (e : ℕ) (passes : r ≡ Ok e) where
   pub settled_got : (x : Request) × (settled format s ≡ got x e) × (u ≡ request_noted Flags x t)
   settled_got = noting_got (request_noted Flags) (settled format s) r t u settles e passes
 
@@ -67,7 +67,7 @@ module _ (s t u : List ℕ) (r : Passed) (settles : outcome r u ≡ noting (requ
     settled_unguarded = plain_guards Flags s (λ i. (bytes i).fits) u settled_got.0 e past.reads noted
 
 -- WITH GUARDS.
-module _ (s t u : List ℕ) (r : Passed) (settles : outcome r u ≡ noting guarded_noted (settled_guarded format s) t) (e : ℕ) (passes : r ≡ To e) where
+module _ (s t u : List ℕ) (r : Passed) (settles : outcome r u ≡ noting guarded_noted (settled_guarded format s) t) (e : ℕ) (passes : r ≡ Ok e) where
   pub guarded_got : (g : GuardedRequest) × (settled_guarded format s ≡ got g e) × (u ≡ guarded_noted g t)
   guarded_got = noting_got guarded_noted (settled_guarded format s) r t u settles e passes
 
@@ -93,7 +93,7 @@ module _ (s t u : List ℕ) (r : Passed) (settles : outcome r u ≡ noting guard
     guards_held = guarded_guards s (λ i. (bytes i).fits) u guarded_got.0 e (guarded_past format s guarded_got.0 e guarded_got.1).0 noted_guarded
 
 -- BY CASES it is the same request, with the mode put into the notes.
-module _ (s t u : List ℕ) (r : Passed) (settles : outcome r u ≡ noting (request_noted Flags) (settled format s) t) (e : ℕ) (passes : r ≡ To e) (bytes : (i : ℕ) → Fits w8 (get_or s i 0)) (empty : t ≡ blank)
+module _ (s t u : List ℕ) (r : Passed) (settles : outcome r u ≡ noting (request_noted Flags) (settled format s) t) (e : ℕ) (passes : r ≡ Ok e) (bytes : (i : ℕ) → Fits w8 (get_or s i 0)) (empty : t ≡ blank)
     (v : List ℕ) (put : v ≡ set u mode_slot 1) where
   pub cases_hand : AtHand Flags s v
   cases_hand = rw put (hand_stays Flags s u 1 (settled_at_hand s t u r settles e passes bytes empty))
@@ -111,7 +111,7 @@ module _ (s t u : List ℕ) (r : Passed) (settles : outcome r u ≡ noting (requ
       ∙ ap (λ (x : Request). walked_by_cases x (first_state format x.table)) (same_request Flags s u 1 ∙ settled_held s t u r settles e passes bytes empty)
 
 -- WITH VALUES, and the mode of such a walk put into the notes.
-module _ (s t u : List ℕ) (r : Passed) (settles : outcome r u ≡ noting (request_noted Valued) (settled_values format s) t) (e : ℕ) (passes : r ≡ To e) where
+module _ (s t u : List ℕ) (r : Passed) (settles : outcome r u ≡ noting (request_noted Valued) (settled_values format s) t) (e : ℕ) (passes : r ≡ Ok e) where
   pub values_got : (x : Request) × (settled_values format s ≡ got x e) × (u ≡ request_noted Valued x t)
   values_got = noting_got (request_noted Valued) (settled_values format s) r t u settles e passes
 

@@ -11,11 +11,11 @@ use checking::check::check_derivation;
 use finding::branches::sequence_of;
 use meaning::{Answer, Form, Layout};
 use parsing::bytes::wide;
-use parsing::lists::Passed;
 use reading::notes;
 use reading::notes::{Notes, get};
 use refusing::settled::settle;
 use verdicts::answers;
+use verdicts::answers::{refused, uncounted};
 
 // The layout does not cover this number of whether entries.
 fn is_beyond(layout: Layout, asked: usize) -> bool
@@ -35,28 +35,12 @@ fn check_at_hand(layout: Layout, request: &[u8], t: &Notes, derivation: &[u8]) -
     let goals = get(t, notes::GOALS);
     let whether = sequence_of(Form::Flags, request, goals);
     let asked = wide(request[whether]);
-    let refused = is_beyond(layout, asked);
-    if refused {
-        return Answer {
-            number: answers::WHETHER_ASKED,
-            input: answers::THE_REQUEST,
-            place: whether,
-            count: 0,
-        };
+    if is_beyond(layout, asked) {
+        return uncounted(answers::WHETHER_ASKED, answers::THE_REQUEST, whether);
     }
     match check_derivation(layout, request, t, derivation) {
-        Passed::To(_) => Answer {
-            number: answers::VERIFIED,
-            input: answers::NEITHER_INPUT,
-            place: 0,
-            count: 0,
-        },
-        Passed::Fault(k, p) => Answer {
-            number: k,
-            input: answers::THE_DERIVATION,
-            place: p,
-            count: 0,
-        },
+        Ok(_) => uncounted(answers::VERIFIED, answers::NEITHER_INPUT, 0),
+        Err(fault) => refused(fault, answers::THE_DERIVATION),
     }
 }
 
@@ -66,13 +50,8 @@ fn check_as(layout: Layout, request: &[u8], derivation: &[u8]) -> Answer
 {
     let mut t: Notes = [0u16; notes::SLOTS];
     match settle(request, &mut t) {
-        Passed::To(_) => check_at_hand(layout, request, &t, derivation),
-        Passed::Fault(k, p) => Answer {
-            number: k,
-            input: answers::THE_REQUEST,
-            place: p,
-            count: 0,
-        },
+        Ok(_) => check_at_hand(layout, request, &t, derivation),
+        Err(fault) => refused(fault, answers::THE_REQUEST),
     }
 }
 

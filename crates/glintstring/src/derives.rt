@@ -16,14 +16,13 @@ use finding::branches::sequence_of;
 use meaning::{Answer, Form};
 use parsing::bytes::wide;
 use parsing::limits;
-use parsing::lists::Passed;
 use reading::notes;
 use reading::notes::{Notes, get, put};
 use refusing::settled::settle;
 use schemes::scheme::{measure, write};
 use steps::trying::NARROW;
 use verdicts::answers;
-use verdicts::answers::uncounted;
+use verdicts::answers::{refused, uncounted};
 use verdicts::walked::walk_plan;
 
 // The lines of a request whose walk is fine go to the room, where they fit: 38 and 39 are known before the first is written.
@@ -97,7 +96,7 @@ pub fn derive(request: &[u8], room: &mut [u8], budget: u32) -> Answer
 {
     let mut t: Notes = [0u16; notes::SLOTS];
     match settle(request, &mut t) {
-        Passed::To(_) => derive_at_hand(request, &mut t, room, budget),
-        Passed::Fault(k, p) => uncounted(k, answers::THE_REQUEST, p),
+        Ok(_) => derive_at_hand(request, &mut t, room, budget),
+        Err(fault) => refused(fault, answers::THE_REQUEST),
     }
 }

@@ -12,18 +12,16 @@ ghost use Rattle.steps.specs.Steps.{form_in, walk_held};
 ghost use Rattle.meaning.specs.declared.Form.TheVariants.{Flags};
 
 use super::missing::line_at;
-use finding::places::Found;
 use indexing::differing::differs;
 use indexing::taking::take_index;
 use meaning::Answer;
 use parsing::limits;
-use parsing::lists::Passed;
 use reading::notes;
 use reading::notes::{Notes, put};
 use refusing::settled::{settle, settle_guarded, settle_values};
 use steps::trying::VALUES;
 use verdicts::answers;
-use verdicts::answers::uncounted;
+use verdicts::answers::{refused, uncounted};
 use verdicts::walked::{walk_plan, walk_values};
 
 // The length of a lent state.
@@ -41,17 +39,12 @@ fn walk_with_line(request: &[u8], t: &Notes, state: &mut [u8], budget: u32) -> J
     ensures line { result.line ≡ line_told (table_in Flags request.now) request.now (record { answer = result.answer; state = state.new }) }
 {
     let answer = walk_plan(request, t, state, budget);
-    if answer.number == answers::NOT_EXECUTABLE {
-        let line = line_at(request, t, answer.place, state);
-        return Judged {
-            answer: answer,
-            line: line,
-        };
-    }
-    Judged {
-        answer: answer,
-        line: 0,
-    }
+    let line = if answer.number == answers::NOT_EXECUTABLE {
+        line_at(request, t, answer.place, state)
+    } else {
+        0
+    };
+    Judged { answer, line }
 }
 
 // What the walk call gives: the answer, and the line that it carries (FORMAT 18.9), 0 for none.
@@ -62,14 +55,11 @@ pub struct Judged {
 }
 
 // An answer that no walk gives, and that carries no line.
-fn without_walk(number: u8, input: u8, place: usize) -> Judged
-    ensures answer_value { result.answer ≡ record { number = number; input = input; place = place; count = 0 } }
+fn without_walk(answer: Answer) -> Judged
+    ensures answer_value { result.answer ≡ answer }
     ensures line_value { result.line ≡ 0 }
 {
-    Judged {
-        answer: uncounted(number, input, place),
-        line: 0,
-    }
+    Judged { answer, line: 0 }
 }
 
 // The walk call (FORMAT 1.15). Answers 1 and 2 leave the state concerned in the lent bytes; every other leaves these as they are.
@@ -78,12 +68,12 @@ pub fn judge(request: &[u8], state: &mut [u8], budget: u32) -> Judged
     ensures line { result.line ≡ line format request.now state.old budget }
 {
     if state.len() != STATE_BYTES {
-        return without_walk(answers::STATE_LENGTH, answers::NEITHER_INPUT, 0);
+        return without_walk(uncounted(answers::STATE_LENGTH, answers::NEITHER_INPUT, 0));
     }
     let mut t: Notes = [0u16; notes::SLOTS];
     match settle(request, &mut t) {
-        Passed::To(_) => walk_with_line(request, &t, state, budget),
-        Passed::Fault(k, p) => without_walk(k, answers::THE_REQUEST, p),
+        Ok(_) => walk_with_line(request, &t, state, budget),
+        Err(fault) => without_walk(refused(fault, answers::THE_REQUEST)),
     }
 }
 
@@ -93,12 +83,12 @@ pub fn judge_guarded(request: &[u8], state: &mut [u8], budget: u32) -> Judged
     ensures line { result.line ≡ line_guarded format request.now state.old budget }
 {
     if state.len() != STATE_BYTES {
-        return without_walk(answers::STATE_LENGTH, answers::NEITHER_INPUT, 0);
+        return without_walk(uncounted(answers::STATE_LENGTH, answers::NEITHER_INPUT, 0));
     }
     let mut t: Notes = [0u16; notes::SLOTS];
     match settle_guarded(request, &mut t) {
-        Passed::To(_) => walk_with_line(request, &t, state, budget),
-        Passed::Fault(k, p) => without_walk(k, answers::THE_REQUEST, p),
+        Ok(_) => walk_with_line(request, &t, state, budget),
+        Err(fault) => without_walk(refused(fault, answers::THE_REQUEST)),
     }
 }
 
@@ -108,15 +98,15 @@ pub fn judge_by_cases(request: &[u8], state: &mut [u8], budget: u32) -> Judged
     ensures line { result.line ≡ line_by_cases format request.now state.old budget }
 {
     if state.len() != STATE_BYTES {
-        return without_walk(answers::STATE_LENGTH, answers::NEITHER_INPUT, 0);
+        return without_walk(uncounted(answers::STATE_LENGTH, answers::NEITHER_INPUT, 0));
     }
     let mut t: Notes = [0u16; notes::SLOTS];
     match settle(request, &mut t) {
-        Passed::To(_) => {
+        Ok(_) => {
             put(&mut t, notes::MODE, BY_CASES);
             walk_with_line(request, &t, state, budget)
         }
-        Passed::Fault(k, p) => without_walk(k, answers::THE_REQUEST, p),
+        Err(fault) => without_walk(refused(fault, answers::THE_REQUEST)),
     }
 }
 
@@ -126,18 +116,18 @@ pub fn judge_indexed(request: &[u8], index: &[u8], state: &mut [u8], budget: u32
     ensures line { result.line ≡ line_indexed format request.now index.now state.old budget }
 {
     if state.len() != STATE_BYTES {
-        return without_walk(answers::STATE_LENGTH, answers::NEITHER_INPUT, 0);
+        return without_walk(uncounted(answers::STATE_LENGTH, answers::NEITHER_INPUT, 0));
     }
     let mut t: Notes = [0u16; notes::SLOTS];
     match settle(request, &mut t) {
-        Passed::To(_) => match differs(request, &t, index) {
-            Found::Nowhere => {
+        Ok(_) => match differs(request, &t, index) {
+            None => {
                 take_index(request, index, &mut t);
                 walk_with_line(request, &t, state, budget)
             }
-            Found::At(p) => without_walk(answers::INDEX_DIFFERS, answers::THE_INDEX, p),
+            Some(p) => without_walk(uncounted(answers::INDEX_DIFFERS, answers::THE_INDEX, p)),
         },
-        Passed::Fault(k, p) => without_walk(k, answers::THE_REQUEST, p),
+        Err(fault) => without_walk(refused(fault, answers::THE_REQUEST)),
     }
 }
 
@@ -150,10 +140,10 @@ pub fn judge_values(request: &[u8], state: &mut [u8], budget: u32) -> Answer
     }
     let mut t: Notes = [0u16; notes::SLOTS];
     match settle_values(request, &mut t) {
-        Passed::To(_) => {
+        Ok(_) => {
             put(&mut t, notes::MODE, VALUES);
             walk_values(request, &t, state, budget)
         }
-        Passed::Fault(k, p) => uncounted(k, answers::THE_REQUEST, p),
+        Err(fault) => refused(fault, answers::THE_REQUEST),
     }
 }

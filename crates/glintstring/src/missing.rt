@@ -27,11 +27,7 @@ fn marks_in(state: &[u8]) -> Marks
     ensures { result ≡ state.now }
 {
     let mut marks = [limits::UNKNOWN_MARK; limits::FLUENTS];
-    let mut f = 0;
-    while f < limits::FLUENTS {
-        marks[f] = state[f];
-        f += 1;
-    }
+    marks.copy_from_slice(state);
     marks
 }
 

@@ -1,4 +1,4 @@
-ghost use Rattle.std.specs.Prelude.{◌≡◌, ◌<◌};
+ghost use Rattle.std.specs.Prelude.{◌≡◌, ◌<◌, Some};
 ghost use Rattle.meaning.specs.Limits.{format};
 ghost use Rattle.walking.specs.Walks.{action_at};
 ghost use Rattle.steps.specs.Held.{plan_in};
@@ -10,7 +10,6 @@ ghost use Rattle.guide.specs.GuideHeld.{came, ItemThere, ActionThere, meets, tak
 ghost use Rattle.meaning.specs.declared.Form.TheVariants.{Flags};
 
 use super::sensed::{is_against, sensed_by, taken_over};
-use finding::places::Found;
 use guidance::Told;
 use meaning::{Answer, Form};
 use parsing::bytes::wide;
@@ -25,14 +24,12 @@ use verdicts::answers;
 use verdicts::answers::uncounted;
 
 // The answers that a guide alone gives (FORMAT 25.5, 25.13, 25.14).
+// Kept: an answer's number is a byte of `Answer`, as the definitions have it.
 pub const NOT_VERIFIED: u8 = 40;
 
 pub const WRONG_NUMBER: u8 = 41;
 
 pub const AGAINST_KNOWN: u8 = 42;
-
-// This stands for no action: the next call brings no readings.
-pub const NO_ACTION: usize = limits::ACTIONS;
 
 // What comes next: the plan's end; an action, by the number of its item; or a branching that has no condition known true.
 #[derive(Clone, Copy)]
@@ -52,29 +49,23 @@ pub(crate) fn look_ahead(s: &[u8], t: &Notes, at: usize, marks: &Marks) -> Ahead
 {
     let mut i = at;
     while i < limits::ITEMS {
-        let slot = notes::ITEM_PLACE + i;
-        let p = get(t, slot);
-        if s[p] == limits::BRANCHING_BYTE {
-            match chosen(Form::Flags, s, t, i, marks) {
-                Found::At(j) => {
-                    i = j;
-                    continue;
-                }
-                Found::Nowhere => {
-                    return Ahead::NoBranch;
-                }
-            }
+        if s[get(t, notes::ITEM_PLACE + i)] != limits::BRANCHING_BYTE {
+            return Ahead::Action(i);
         }
-        return Ahead::Action(i);
+        match chosen(Form::Flags, s, t, i, marks) {
+            Some(j) => i = j,
+            None => return Ahead::NoBranch,
+        }
     }
     Ahead::End
 }
 
-// What a call makes of a guide that is on its way: its answer, and where it goes on. Where it refuses, the guide stays as it was, and only the answer counts.
+// What a call makes of a guide that is on its way: its answer, and where it goes on, with the action whose readings come next. Where it refuses, the guide stays as it was, and
+// only the answer counts.
 #[derive(Clone, Copy)]
 pub(crate) struct Step {
     pub told: Told,
-    pub action: usize,
+    pub action: Option<usize>,
     pub at: usize,
     pub marks: Marks,
 }
@@ -85,7 +76,7 @@ pub(crate) fn refused(answer: Answer) -> Step
 {
     Step {
         told: Told::Refused(answer),
-        action: NO_ACTION,
+        action: None,
         at: limits::ITEMS,
         marks: [limits::UNKNOWN_MARK; limits::FLUENTS],
     }
@@ -105,30 +96,22 @@ fn do_item(s: &[u8], t: &Notes, i: usize, state: &Marks) -> Step
     requires marked { Marked state.now }
     ensures { Turns s.now t.now result (meets s.now state.now (an_action (action_at s.now t.now i) (after_first (rest_at (plan_in Flags s.now t.now) i)))) }
 {
-    let slot = notes::ITEM_PLACE + i;
-    let p = get(t, slot);
-    let a = wide(s[p]);
-    let runs = can_be_run(s, t, a, state);
-    if runs {
-        let next = follow(Form::Flags, s, t, i);
-        let sensing = is_sensing(Form::Flags, s, t, a);
-        if sensing {
-            return Step {
-                told: Told::Do(a),
-                action: a,
-                at: next,
-                marks: *state,
-            };
-        }
-        let after = state_after(s, t, a, state);
-        return Step {
-            told: Told::Do(a),
-            action: a,
-            at: next,
-            marks: after,
-        };
+    let a = wide(s[get(t, notes::ITEM_PLACE + i)]);
+    if !can_be_run(s, t, a, state) {
+        return refused_step(NOT_VERIFIED);
     }
-    refused_step(NOT_VERIFIED)
+    let next = follow(Form::Flags, s, t, i);
+    let marks = if is_sensing(Form::Flags, s, t, a) {
+        *state
+    } else {
+        state_after(s, t, a, state)
+    };
+    Step {
+        told: Told::Do(a),
+        action: Some(a),
+        at: next,
+        marks,
+    }
 }
 
 // From the position `at` on, in the state `state`.
@@ -141,8 +124,8 @@ fn go_on(s: &[u8], t: &Notes, at: usize, state: &Marks) -> Step
     match look_ahead(s, t, at, state) {
         Ahead::End => Step {
             told: Told::Done,
-            action: NO_ACTION,
-            at: at,
+            action: None,
+            at,
             marks: *state,
         },
         Ahead::Action(i) => do_item(s, t, i, state),
@@ -156,15 +139,12 @@ fn step_after(s: &[u8], t: &Notes, action: usize, at: usize, marks: &Marks, read
     requires action_lt_actions { action < format.actions }
     requires position { Position (plan_in Flags s.now t.now) at }
     requires marked { Marked marks.now }
-    ensures { Turns s.now t.now result (takes s.now t.now action at marks.now readings.now) }
+    ensures { Turns s.now t.now result (takes s.now t.now (Some action) at marks.now readings.now) }
 {
-    let asked = sensed_by(s, t, action);
-    let due = asked.count;
-    if readings.len() != due {
+    if readings.len() != sensed_by(s, t, action).count {
         return refused_step(WRONG_NUMBER);
     }
-    let wrong = is_against(s, t, action, marks, readings);
-    if wrong {
+    if is_against(s, t, action, marks, readings) {
         return refused_step(AGAINST_KNOWN);
     }
     let state = taken_over(s, t, action, marks, readings);
@@ -175,7 +155,7 @@ fn step_after(s: &[u8], t: &Notes, action: usize, at: usize, marks: &Marks, read
 pub(crate) fn answer_call(
     s: &[u8],
     t: &Notes,
-    action: usize,
+    action: Option<usize>,
     at: usize,
     marks: &Marks,
     readings: &[u8],
@@ -185,11 +165,9 @@ pub(crate) fn answer_call(
     requires marked { Marked marks.now }
     ensures { Turns s.now t.now result (takes s.now t.now action at marks.now readings.now) }
 {
-    if action < limits::ACTIONS {
-        return step_after(s, t, action, at, marks, readings);
+    match action {
+        Some(a) if a < limits::ACTIONS => step_after(s, t, a, at, marks, readings),
+        _ if !readings.is_empty() => refused_step(WRONG_NUMBER),
+        _ => go_on(s, t, at, marks),
     }
-    if readings.len() != 0 {
-        return refused_step(WRONG_NUMBER);
-    }
-    go_on(s, t, at, marks)
 }

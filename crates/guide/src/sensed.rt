@@ -13,6 +13,7 @@ use reading::notes::Notes;
 use steps::sensing::looks_at;
 
 // The fluents whose readings a call brings: so many, from the start of the row on, ascending, and 0 behind them.
+// Kept: no heap is used, so that a list has its number beside it.
 #[derive(Clone, Copy)]
 pub struct Fluents {
     pub count: usize,
@@ -27,20 +28,13 @@ pub(crate) fn sensed_by(s: &[u8], t: &Notes, a: usize) -> Fluents
 {
     let mut row = [0u8; limits::FLUENTS];
     let mut count = 0;
-    let mut f = 0;
-    while f < limits::FLUENTS {
-        let here = f;
-        f += 1;
-        let sensed = looks_at(s, t, a, here);
-        if sensed {
-            row[count] = here as u8;
+    for f in 0..limits::FLUENTS {
+        if looks_at(s, t, a, f) {
+            row[count] = f as u8;
             count += 1;
         }
     }
-    Fluents {
-        count: count,
-        row: row,
-    }
+    Fluents { count, row }
 }
 
 // The mark that a reading gives its fluent, whichever it is: the byte 0 says no, and every other yes.
@@ -63,16 +57,12 @@ pub(crate) fn is_against(s: &[u8], t: &Notes, a: usize, marks: &Marks, readings:
     ensures { result ≡ against marks.now (literals_read (sensed format (table_in Flags s.now) a) readings.now) }
 {
     let mut i = 0;
-    let mut f = 0;
-    while f < limits::FLUENTS {
-        let here = f;
-        f += 1;
-        let sensed = looks_at(s, t, a, here);
-        if sensed {
+    // Kept: a reading is taken for a sensed fluent alone, so that `any` would have to count the readings in its closure.
+    for f in 0..limits::FLUENTS {
+        if looks_at(s, t, a, f) {
             let mark = mark_read(readings[i]);
             i += 1;
-            let other = 3 - mark;
-            if marks[here] == other {
+            if marks[f] == 3 - mark {
                 return true;
             }
         }
@@ -91,13 +81,9 @@ pub(crate) fn taken_over(s: &[u8], t: &Notes, a: usize, marks: &Marks, readings:
 {
     let mut state = *marks;
     let mut i = 0;
-    let mut f = 0;
-    while f < limits::FLUENTS {
-        let here = f;
-        f += 1;
-        let sensed = looks_at(s, t, a, here);
-        if sensed {
-            state[here] = mark_read(readings[i]);
+    for f in 0..limits::FLUENTS {
+        if looks_at(s, t, a, f) {
+            state[f] = mark_read(readings[i]);
             i += 1;
         }
     }

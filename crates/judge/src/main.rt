@@ -2,19 +2,19 @@
 
 #![tactic(auto)]
 
-ghost use Rattle.programs.specs.Input.{Within};
+ghost use Rattle.std.specs.Io.{ReadsAtMost};
 
 use glintstring::judging::{
     Judged, judge, judge_by_cases, judge_guarded, judge_indexed, judge_values,
 };
 use parsing::limits;
 use programs::{
-    Asked, Input, REQUEST_ROOM, budget_asked, fail, open_index, option_asked, put, put_line,
-    put_number, put_state, put_values, read_all, stack_is_enough,
+    Numbers, answer_input, budget_asked, fail, open_index, option_asked, put_state, put_values,
+    read_all, say_budget, stack_is_enough,
 };
 use std::env::Env;
 use std::io;
-use std::io::{ErrorKind, Read, Write};
+use std::io::{ErrorKind, Write};
 use std::rt::Files;
 use verdicts::answers;
 
@@ -26,6 +26,14 @@ enum Call {
     ByCases,
     Indexed,
     Values,
+}
+
+// What the program's words ask for: a call, its budget, and the line that its answer is about.
+#[derive(Clone, Copy)]
+struct Asked {
+    call: Call,
+    budget: u32,
+    line: bool,
 }
 
 // Room for an index, with a byte more: what stands behind that changes no answer.
@@ -51,15 +59,14 @@ fn answer_to<R: Print + Files, E: Write>(
     err: &mut E,
     request: &[u8],
     index: &[u8],
-    budget: u32,
-    call: Call,
-    line: bool,
+    asked: Asked,
 ) -> io::Result<()> {
-    if !stack_is_enough(rt, err, b"judge", b"", request.len()) {
+    if !stack_is_enough(rt, err, "judge", b"", request.len()) {
         return Ok(());
     }
     let mut state = [0u8; limits::FLUENTS];
-    let judged = match call {
+    let budget = asked.budget;
+    let Judged { answer, line } = match asked.call {
         Call::Walk => judge(request, &mut state, budget),
         Call::Guarded => judge_guarded(request, &mut state, budget),
         Call::ByCases => judge_by_cases(request, &mut state, budget),
@@ -69,46 +76,29 @@ fn answer_to<R: Print + Files, E: Write>(
             line: 0,
         },
     };
-    let answer = judged.answer;
-    put_line(
-        &mut io::writer(rt),
-        answer.number as u64,
-        answer.place as u64,
-        answer.count as u64,
-    )?;
-    if answer.number == answers::GOAL_MISSED
-        || answer.number == answers::NOT_EXECUTABLE
-        || answer.number == answers::GUARD_BROKEN
-    {
-        if request.len() == 0 {
+    rt.println(Numbers(answer))?;
+    if let answers::GOAL_MISSED | answers::NOT_EXECUTABLE | answers::GUARD_BROKEN = answer.number {
+        let Some(fluents) = request.first() else {
             return Err(io::Error::from(ErrorKind::InvalidData));
-        }
-        put_left(rt, call, &state, request[0])?;
+        };
+        put_left(rt, asked.call, &state, *fluents)?;
     }
-    if line {
-        put_number(rt, judged.line as u64)?;
-        return put(rt, b"\n");
+    if asked.line {
+        rt.println(line)?;
     }
     Ok(())
 }
 
-// Reads the index, which the script has open on another descriptor.
-fn read_given<R: Files>(rt: &R, buf: &mut [u8]) -> Input
-    ensures { Within 0 result buf.new }
-{
-    match open_index(rt) {
-        Ok(mut file) => read_all(&mut file, buf),
-        Err(error) => Input::Unreadable(error),
-    }
-}
-
-// Reads the index where the call takes one. Every other call is given none.
-fn read_index<R: Files>(rt: &R, call: Call, buf: &mut [u8]) -> Input
-    ensures { Within 0 result buf.new }
+// Reads the index, which the script has open on another descriptor, where the call takes one. Every other call is given none.
+fn read_index<R: Files>(rt: &R, call: Call, buf: &mut [u8]) -> io::Result<usize>
+    ensures { ReadsAtMost result buf.new }
 {
     match call {
-        Call::Indexed => read_given(rt, buf),
-        _ => Input::Bytes(0),
+        Call::Indexed => {
+            let mut file = open_index(rt)?;
+            read_all(&mut file, buf)
+        }
+        _ => Ok(0),
     }
 }
 
@@ -117,69 +107,52 @@ fn judge_request<R: Print + Files, E: Write>(
     rt: &R,
     err: &mut E,
     request: &[u8],
-    budget: u32,
-    call: Call,
-    line: bool,
-) {
+    asked: Asked,
+) -> io::Result<()> {
     let mut bytes = [0u8; INDEX_ROOM];
-    match read_index(rt, call, &mut bytes) {
-        Input::Bytes(n) => {
-            if let Err(error) = answer_to(rt, err, request, &bytes[..n], budget, call, line) {
-                fail(err, b"judge: standard output", error);
-            }
+    match read_index(rt, asked.call, &mut bytes) {
+        Ok(n) => answer_to(rt, err, request, &bytes[..n], asked),
+        Err(error) => {
+            fail(err, "judge: index", error);
+            Ok(())
         }
-        Input::Unreadable(error) => fail(err, b"judge: index", error),
-    }
-}
-
-fn judge_input<R: Print + io::Input + Files, E: Write>(
-    rt: &R,
-    err: &mut E,
-    budget: u32,
-    call: Call,
-    line: bool,
-) {
-    // One byte more than a request may have: a longer one is refused whatever it holds.
-    let mut bytes = [0u8; REQUEST_ROOM];
-    match read_all(&mut rt.reader(), &mut bytes) {
-        Input::Bytes(n) => judge_request(rt, err, &bytes[..n], budget, call, line),
-        Input::Unreadable(error) => fail(err, b"judge: standard input", error),
     }
 }
 
 // The call that the argument so many from the end asks for.
 fn call_asked(rt: &impl Env, from_end: usize) -> Call {
     if option_asked(rt, from_end, b"--guarded") {
-        return Call::Guarded;
+        Call::Guarded
+    } else if option_asked(rt, from_end, b"--by-cases") {
+        Call::ByCases
+    } else if option_asked(rt, from_end, b"--indexed") {
+        Call::Indexed
+    } else if option_asked(rt, from_end, b"--values") {
+        Call::Values
+    } else {
+        Call::Walk
     }
-    if option_asked(rt, from_end, b"--by-cases") {
-        return Call::ByCases;
-    }
-    if option_asked(rt, from_end, b"--indexed") {
-        return Call::Indexed;
-    }
-    if option_asked(rt, from_end, b"--values") {
-        return Call::Values;
-    }
-    Call::Walk
 }
 
 // How many words there are beside a budget: the program's name, and the options.
 fn words_of(call: Call, line: bool) -> usize {
-    match call {
-        Call::Walk => if line { 2 } else { 1 },
-        _ => if line { 3 } else { 2 },
-    }
+    let options = match call {
+        Call::Walk => 0,
+        _ => 1,
+    };
+    1 + options + usize::from(line)
 }
 
 fn main(rt: HostRuntime) {
     let mut err = rt.stderr();
     let line = option_asked(&rt, 1, b"--line");
     let call = call_asked(&rt, if line { 2 } else { 1 });
-    match budget_asked(&rt, words_of(call, line)) {
-        Asked::Number(budget) => judge_input(&rt, &mut err, budget, call, line),
-        Asked::Nothing => {
-            let _ = err.write_all(b"judge: a budget is a decimal number up to 4294967295\n");
-        }
-    }
+    let Some(budget) = budget_asked(&rt, words_of(call, line)) else {
+        say_budget(&mut err, "judge");
+        return;
+    };
+    let asked = Asked { call, budget, line };
+    answer_input(&rt, &mut err, "judge", |err, request| {
+        judge_request(&rt, err, request, asked)
+    });
 }

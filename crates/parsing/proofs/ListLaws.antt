@@ -9,6 +9,7 @@ use mathlib.Core.Bool.{Bool, true, false}
 use mathlib.Core.List.{List, ◌∷◌}
 use lib.Dec.{eqb, ltb}
 use borrow.Author.Tests.{ne_eqb, lt-ltb, le-ltb, ltb-true}
+use Rattle.std.specs.Prelude.{Result, Ok, Err}
 use Rattle.meaning.specs.Tests.{both, pick}
 use Rattle.meaning.specs.Limits.{format, all_literals}
 use Rattle.meaning.specs.Literals.{complement}
@@ -18,14 +19,12 @@ use Rattle.meaning.proofs.TestLaws.{by-test, pick_true, pick_false, pick-cases}
 use Rattle.meaning.proofs.SettledLaws.{next_got, got_same, fault≢got}
 use Rattle.meaning.proofs.RangeLaws.{below_bound}
 use Rattle.meaning.proofs.LiteralLaws.{complement_even, complement_odd}
-use Rattle.parsing.specs.declared.bytes.Read.{Read}
-use Rattle.parsing.specs.declared.bytes.Read.TheVariants.{Value, Fault}
 use Rattle.parsing.specs.declared.lists.Kind.{Kind}
 use Rattle.parsing.specs.declared.lists.Kind.TheVariants.{Literals, Fluents}
-use Rattle.parsing.specs.declared.lists.Passed.{Passed}
-use Rattle.parsing.specs.declared.lists.Passed.TheVariants.{To, Fault as Stop}
-use Rattle.parsing.specs.Read.{number_read, passed, kind_of, beside_floor}
-use Rattle.parsing.proofs.ByteLaws.{read_value, read_fault}
+use Rattle.parsing.specs.declared.faults.Fault.{Fault}
+use Rattle.parsing.specs.declared.faults.Refusal.TheVariants.{NotAbove, ComplementBeside}
+use Rattle.parsing.specs.Read.{Numbered, Passed, numbered, over, stopped, passed, kind_of, beside_floor}
+use Rattle.parsing.proofs.ByteLaws.{failing, read_value, stops}
 
 pub bound_literals : (k : Kind) (n : ℕ) → k ≡ Literals → 2 * n ≡ bound_of (kind_of k) n
 unfolding bound_of kind_of
@@ -36,9 +35,9 @@ unfolding bound_of kind_of
 bound_fluents k n e = rw e
 
 -- THE COMPLEMENT OF THE ENTRY BEFORE. Where the floor is odd that is the floor, and where it is even it is below it.
-pub beside_even : (k : Kind) (floor x : ℕ) → k ≡ Literals → floor % 2 ≡ 0 → floor ≤ x → false ≡ beside_floor (kind_of k) floor x
+pub beside_even : (k : Kind) (floor x : ℕ) → k ≡ Literals → floor ≤ x → floor % 2 ≡ 0 → false ≡ beside_floor (kind_of k) floor x
 unfolding beside_floor kind_of have_complements both
-beside_even k floor x e even h = rw e (by-test (ltb 0 floor) (λ t. rw t (sym (ne_eqb x (complement (floor - 1)) (λ q. below t q)))) (λ u. rw u))
+beside_even k floor x e h even = rw e (by-test (ltb 0 floor) (λ t. rw t (sym (ne_eqb x (complement (floor - 1)) (λ q. below t q)))) (λ u. rw u))
   where
     below : ltb 0 floor ≡ true → x ≡ complement (floor - 1) → ⊥
     below t q =
@@ -55,30 +54,28 @@ unfolding beside_floor kind_of have_complements both
 beside_never k floor x e = rw e
 
 -- ENTRIES.
-module _ (k : Kind) (n : ℕ) (s : List ℕ) (p floor bound : ℕ) (number : Read) (top : bound ≡ bound_of (kind_of k) n) (read : number ≡ number_read (below_at bound s p)) where
-  below_is : number ≡ number_read (below_at (bound_of (kind_of k) n) s p)
-  below_is = read ∙ ap (λ (b : ℕ). number_read (below_at b s p)) top
+module _ (k : Kind) (n : ℕ) (s : List ℕ) (p floor bound : ℕ) (top : bound ≡ bound_of (kind_of k) n) where
+  at_top : {r : Got ℕ} → r ≡ below_at bound s p → r ≡ below_at (bound_of (kind_of k) n) s p
+  at_top read = read ∙ ap (λ (b : ℕ). below_at b s p) top
 
-  pub entry_fault : (j q : ℕ) → number ≡ Fault j q → Fault j q ≡ number_read (entry_at (kind_of k) n s p floor)
-  unfolding entry_at next number_read
-  entry_fault j q e = rw (read_fault (below_at (bound_of (kind_of k) n) s p) number j q below_is e)
+  pub entry_fault : {j e : ℕ} → fault j e ≡ below_at bound s p → fault j e ≡ entry_at (kind_of k) n s p floor
+  unfolding entry_at
+  entry_fault e = stops (below_at (bound_of (kind_of k) n) s p) _ (at_top e)
 
-  module _ (x q : ℕ) (is : number ≡ Value x q) where
+  module _ (x q : ℕ) (read : got x q ≡ below_at bound s p) where
     entry_rest : entry_at (kind_of k) n s p floor ≡ pick (ltb x floor) (λ _. fault 14 p) (λ _. pick (beside_floor (kind_of k) floor x) (λ _. fault 15 p) (λ _. got x q))
     unfolding entry_at next beside_floor
-    entry_rest = rw (read_value (below_at (bound_of (kind_of k) n) s p) number x q below_is is)
+    entry_rest = rw (read_value (below_at (bound_of (kind_of k) n) s p) (at_top read))
 
-    pub entry_low : x < floor → Fault 14 p ≡ number_read (entry_at (kind_of k) n s p floor)
-    unfolding number_read
-    entry_low h = sym (ap number_read (entry_rest ∙ pick_true _ _ _ (lt-ltb x floor h)))
+    pub entry_low : (f : Fault) → x < floor → f ≡ record { refusal = NotAbove; place = p } → numbered (Err f) ≡ entry_at (kind_of k) n s p floor
+    entry_low f h e = ap failing e ∙ sym (entry_rest ∙ pick_true _ _ _ (lt-ltb x floor h))
 
-    pub entry_beside : (b : Bool) → floor ≤ x → b ≡ beside_floor (kind_of k) floor x → b ≡ true → Fault 15 p ≡ number_read (entry_at (kind_of k) n s p floor)
-    unfolding number_read
-    entry_beside b h e t = sym (ap number_read (entry_rest ∙ pick_false _ _ _ (le-ltb x floor h) ∙ pick_true _ _ _ (sym e ∙ t)))
+    pub entry_beside : (f : Fault) (b : Bool) → floor ≤ x → b ≡ beside_floor (kind_of k) floor x → b ≡ true → f ≡ record { refusal = ComplementBeside; place = p }
+        → numbered (Err f) ≡ entry_at (kind_of k) n s p floor
+    entry_beside f b h e t is = ap failing is ∙ sym (entry_rest ∙ pick_false _ _ _ (le-ltb x floor h) ∙ pick_true _ _ _ (sym e ∙ t))
 
-    pub entry_good : (b : Bool) → floor ≤ x → b ≡ beside_floor (kind_of k) floor x → b ≡ false → Value x q ≡ number_read (entry_at (kind_of k) n s p floor)
-    unfolding number_read
-    entry_good b h e t = sym (ap number_read (entry_rest ∙ pick_false _ _ _ (le-ltb x floor h) ∙ pick_false _ _ _ (sym e ∙ t)))
+    pub entry_good : (b : Bool) → floor ≤ x → b ≡ beside_floor (kind_of k) floor x → b ≡ false → got x q ≡ entry_at (kind_of k) n s p floor
+    entry_good b h e t = sym (entry_rest ∙ pick_false _ _ _ (le-ltb x floor h) ∙ pick_false _ _ _ (sym e ∙ t))
 
 -- WHAT WAS READ is not looked at.
 module _ {A B : Type 0} where
@@ -87,46 +84,62 @@ module _ {A B : Type 0} where
   passed_same (got x p) f = refl
   passed_same (fault n p) f = refl
 
--- WHAT A READER PASSED OVER, from what it answered.
-passed_end : Passed → ℕ
-passed_end r = elim r [ To p ↦ p | Stop n p ↦ p ]
+-- WHAT A READER PASSED OVER, from what it answered. A fault is that of whatever goes on from there.
+ended : Got (Unit {0}) → ℕ
+ended (got x p) = p
+ended (fault n p) = p
 
-passed_fault : Passed → ℕ
-passed_fault r = elim r [ To p ↦ 0 | Stop n p ↦ n + 1 ]
+numbered_by : Got (Unit {0}) → ℕ
+numbered_by (got x p) = 0
+numbered_by (fault n p) = n + 1
 
 module _ {A : Type 0} where
-  pub passed_to : (g : Got A) (q : ℕ) → passed g ≡ To q → (x : A) × (g ≡ got x q)
-  unfolding passed passed_end passed_fault
-  passed_to (got x p) q e = (x, ap (got x) (ap passed_end e))
-  passed_to (fault n p) q e = let no : n + 1 ≡ 0 = ap passed_fault e in absurd (omega arith)
+  pub passed_to : (g : Got A) (q : ℕ) → passed g ≡ got tt q → (x : A) × (g ≡ got x q)
+  unfolding passed ended
+  passed_to (got x p) q e = (x, ap (got x) (ap ended e))
+  passed_to (fault n p) q e = absurd (fault≢got e)
 
-  pub passed_stop : (g : Got A) (k q : ℕ) → passed g ≡ Stop k q → g ≡ fault k q
-  unfolding passed passed_end passed_fault
-  passed_stop (got x p) k q e = let no : 0 ≡ k + 1 = ap passed_fault e in absurd (omega arith)
-  passed_stop (fault n p) k q e =
-      let number : n + 1 ≡ k + 1 = ap passed_fault e in
+  pub passed_fault : (g : Got A) {k q : ℕ} → passed g ≡ fault k q → g ≡ fault k q
+  unfolding passed ended numbered_by
+  passed_fault (got x p) e = absurd (fault≢got (sym e))
+  passed_fault (fault n p) {k = k} e =
+      let number : n + 1 ≡ k + 1 = ap numbered_by e in
       let is : n ≡ k = omega arith in
-      rw (is, ap passed_end e)
+      rw (is, ap ended e)
+
+  pub passed_stop : (g : Got A) (why : Fault) → passed g ≡ stopped why → g ≡ stopped why
+  passed_stop g why e = passed_fault g e
+
+-- A fault of a part is the whole's, whatever is passed over.
+module _ {A B : Type 0} where
+  pub whole_stops : (m : Got A) (rest : A → ℕ → Got B) {k q : ℕ} → fault k q ≡ m → fault k q ≡ passed (next m rest)
+  unfolding next passed
+  whole_stops m rest e = rw⁻¹ e refl
 
 -- THE LOOP over the entries: what the whole gives is what is left of it.
-module _ (k : Kind) (n : ℕ) (s : List ℕ) (p floor : ℕ) (whole : Passed) where
-  pub entries_done : (left : ℕ) → whole ≡ passed (entries_at (kind_of k) n s left p floor) → left ≤ 0 → To p ≡ whole
+module _ (k : Kind) (n : ℕ) (s : List ℕ) (p floor : ℕ) (whole : Got (Unit {0})) where
+  pub entries_done : (left : ℕ) → whole ≡ passed (entries_at (kind_of k) n s left p floor) → left ≡ 0 → got tt p ≡ whole
   unfolding entries_at passed
   entries_done zero w h = sym w
   entries_done (suc left) w h = absurd (omega arith)
 
-  pub entries_fault : (left j q : ℕ) (number : Read) → whole ≡ passed (entries_at (kind_of k) n s left p floor) → 0 < left
-      → number ≡ number_read (entry_at (kind_of k) n s p floor) → number ≡ Fault j q → Stop j q ≡ whole
-  unfolding entries_at passed next
-  entries_fault zero j q number w h read is = absurd (omega arith)
-  entries_fault (suc left) j q number w h read is = rw (w, read_fault (entry_at (kind_of k) n s p floor) number j q read is)
+  pub entries_fault : (count i : ℕ) {j e : ℕ} → whole ≡ passed (entries_at (kind_of k) n s (count - i) p floor) → i < count
+      → fault j e ≡ entry_at (kind_of k) n s p floor → fault j e ≡ whole
+  unfolding entries_at
+  entries_fault count i w h e = at_left (count - i) (omega arith) w e
+    where
+      at_left : (left : ℕ) → 0 < left → whole ≡ passed (entries_at (kind_of k) n s left p floor) → {j e : ℕ} → fault j e ≡ entry_at (kind_of k) n s p floor → fault j e ≡ whole
+      at_left zero h w e = absurd (omega arith)
+      at_left (suc left) h w e = whole_stops (entry_at (kind_of k) n s p floor) _ e ∙ sym w
 
-  pub entries_next : (left x q : ℕ) (number : Read) → whole ≡ passed (entries_at (kind_of k) n s left p floor) → 0 < left
-      → number ≡ number_read (entry_at (kind_of k) n s p floor) → number ≡ Value x q → whole ≡ passed (entries_at (kind_of k) n s (left - 1) q (x + 1))
+  pub entries_next : (count i x q : ℕ) → whole ≡ passed (entries_at (kind_of k) n s (count - i) p floor) → i < count
+      → got x q ≡ entry_at (kind_of k) n s p floor → whole ≡ passed (entries_at (kind_of k) n s (count - (i + 1)) q (x + 1))
   unfolding entries_at next
-  entries_next zero x q number w h read is = absurd (omega arith)
-  entries_next (suc left) x q number w h read is =
-      w ∙ rw (read_value (entry_at (kind_of k) n s p floor) number x q read is, sub-one) (passed_same (entries_at (kind_of k) n s left q (x + 1)) (λ xs. x ∷ xs))
+  entries_next count i x q w h read = at_left (count - i) (omega arith) w ∙ ap (λ (left : ℕ). passed (entries_at (kind_of k) n s left q (x + 1))) (omega arith)
+    where
+      at_left : (left : ℕ) → 0 < left → whole ≡ passed (entries_at (kind_of k) n s left p floor) → whole ≡ passed (entries_at (kind_of k) n s (left - 1) q (x + 1))
+      at_left zero h w = absurd (omega arith)
+      at_left (suc left) h w = w ∙ rw (read_value (entry_at (kind_of k) n s p floor) read, sub-one) (passed_same (entries_at (kind_of k) n s left q (x + 1)) (λ xs. x ∷ xs))
 
 -- An entry is below its bound, so one more than it fits.
 entry_below : (kind : Reading.Kind) (n : ℕ) (s : List ℕ) (p floor x q : ℕ) → entry_at kind n s p floor ≡ got x q → x < bound_of kind n
@@ -142,19 +155,19 @@ unfolding bound_of
 bound_most Reading.Kind.literals n h = omega arith
 bound_most Reading.Kind.fluents n h = omega arith
 
-pub entry_fits : (k : Kind) (n : ℕ) (s : List ℕ) (p floor x q : ℕ) (number : Read) → n ≤ format.fluents → number ≡ number_read (entry_at (kind_of k) n s p floor) → number ≡ Value x q → Fits w64 (x + 1)
-entry_fits k n s p floor x q number h read is =
-    let e = read_value (entry_at (kind_of k) n s p floor) number x q read is in
+pub entry_fits : (k : Kind) (n : ℕ) (s : List ℕ) (p floor x q : ℕ) → n ≤ format.fluents → got x q ≡ entry_at (kind_of k) n s p floor → Fits w64 (x + 1)
+entry_fits k n s p floor x q h read =
+    let e = read_value (entry_at (kind_of k) n s p floor) read in
     let below = entry_below (kind_of k) n s p floor x q e in
     let most = bound_most (kind_of k) n h in
     record { fits = omega arith }
 
 -- LISTS.
-module _ (k : Kind) (n most : ℕ) (s : List ℕ) (p : ℕ) (count : Read) (read : count ≡ number_read (count_at 0 most s p)) where
-  pub list_fault : (j q : ℕ) → count ≡ Fault j q → Stop j q ≡ passed (list_at (kind_of k) n most s p)
-  unfolding list_at next passed
-  list_fault j q e = rw (read_fault (count_at 0 most s p) count j q read e)
+module _ (k : Kind) (n most : ℕ) (s : List ℕ) (p : ℕ) where
+  pub list_fault : {j e : ℕ} → fault j e ≡ count_at 0 most s p → fault j e ≡ passed (list_at (kind_of k) n most s p)
+  unfolding list_at
+  list_fault e = whole_stops (count_at 0 most s p) _ e
 
-  pub list_entries : (c q : ℕ) (r : Passed) → count ≡ Value c q → r ≡ passed (entries_at (kind_of k) n s c q 0) → r ≡ passed (list_at (kind_of k) n most s p)
+  pub list_entries : (c q : ℕ) (r : Passed) → got c q ≡ count_at 0 most s p → over r ≡ passed (entries_at (kind_of k) n s c q 0) → over r ≡ passed (list_at (kind_of k) n most s p)
   unfolding list_at next
-  list_entries c q r e f = rw (read_value (count_at 0 most s p) count c q read e) f
+  list_entries c q r e f = rw (read_value (count_at 0 most s p) e) f

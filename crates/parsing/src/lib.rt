@@ -3,6 +3,7 @@
 #![tactic(auto)]
 
 pub mod limits; // every limit, refusal and mark
+pub mod faults; // why and where an input is refused
 pub mod bits; // the bits of a number
 pub mod bytes; // bytes, numbers and counts
 pub mod lists; // lists of literals and of fluents

@@ -1,23 +1,16 @@
 ghost use Rattle.std.specs.Prelude.{◌≡◌, ◌≤◌};
 ghost use Rattle.meaning.specs.Limits.{format};
 ghost use Rattle.meaning.specs.Reading.{bound_of, entry_at, entries_at, list_at};
-ghost use Rattle.parsing.specs.Read.{number_read, passed, kind_of, beside_floor};
+ghost use Rattle.parsing.specs.Read.{numbered, over, passed, kind_of, beside_floor};
 
-use super::bytes::{Read, below_at, count_at};
-use super::limits;
+use super::bytes::{below_at, count_at};
+use super::faults::{Fault, Refusal};
 
 // What a list holds.
 #[derive(Clone, Copy)]
 pub enum Kind {
     Literals,
     Fluents,
-}
-
-// The place after what was read; or the fault met.
-#[derive(Clone, Copy)]
-pub enum Passed {
-    To(usize),
-    Fault(u8, usize),
 }
 
 // The first number that is too large, over n fluents.
@@ -37,65 +30,46 @@ fn beside(kind: Kind, floor: usize, x: usize) -> bool
     ensures { result ≡ beside_floor (kind_of kind) floor x }
 {
     match kind {
-        Kind::Literals => {
-            if floor % 2 == 0 {
-                return false;
-            }
-            x == floor
-        }
+        Kind::Literals => floor % 2 != 0 && x == floor,
         Kind::Fluents => false,
     }
 }
 
 // One entry. `floor` is 0 at the first entry, and else one more than the entry before.
-fn entry_at(kind: Kind, n: usize, s: &[u8], p: usize, floor: usize) -> Read
+fn entry_at(kind: Kind, n: usize, s: &[u8], p: usize, floor: usize) -> Result<(usize, usize), Fault>
     requires { n ≤ format.fluents }
-    ensures { result ≡ number_read (entry_at (kind_of kind) n s.now p floor) }
+    ensures { numbered result ≡ entry_at (kind_of kind) n s.now p floor }
 {
-    match below_at(first_too_large(kind, n), s, p) {
-        Read::Value(x, q) => {
-            if x < floor {
-                return Read::Fault(limits::NOT_ABOVE, p);
-            }
-            if beside(kind, floor, x) {
-                return Read::Fault(limits::COMPLEMENT_BESIDE, p);
-            }
-            Read::Value(x, q)
-        }
-        Read::Fault(k, q) => Read::Fault(k, q),
+    let (x, after) = below_at(first_too_large(kind, n), s, p)?;
+    if x < floor {
+        return Err(Refusal::NotAbove.at(p));
     }
+    if beside(kind, floor, x) {
+        return Err(Refusal::ComplementBeside.at(p));
+    }
+    Ok((x, after))
 }
 
-// A given number of entries from `start` on.
-fn entries_at(kind: Kind, n: usize, s: &[u8], count: usize, start: usize) -> Passed
+// A given number of entries from `start` on: the place after them.
+fn entries_at(kind: Kind, n: usize, s: &[u8], count: usize, start: usize) -> Result<usize, Fault>
     requires { n ≤ format.fluents }
-    ensures { result ≡ passed (entries_at (kind_of kind) n s.now count start 0) }
+    ensures { over result ≡ passed (entries_at (kind_of kind) n s.now count start 0) }
 {
-    let mut left = count;
     let mut p = start;
-    let mut floor: usize = 0;
-    while 0 < left {
-        match entry_at(kind, n, s, p, floor) {
-            Read::Value(x, q) => {
-                floor = x + 1;
-                p = q;
-                left -= 1;
-            }
-            Read::Fault(k, q) => {
-                return Passed::Fault(k, q);
-            }
-        }
+    let mut floor = 0;
+    for _ in 0..count {
+        let (x, after) = entry_at(kind, n, s, p, floor)?;
+        floor = x + 1;
+        p = after;
     }
-    Passed::To(p)
+    Ok(p)
 }
 
-// A list of at most `most` entries.
-pub fn list_at(kind: Kind, n: usize, most: usize, s: &[u8], p: usize) -> Passed
+// A list of at most `most` entries: the place after it.
+pub fn list_at(kind: Kind, n: usize, most: usize, s: &[u8], p: usize) -> Result<usize, Fault>
     requires { n ≤ format.fluents }
-    ensures { result ≡ passed (list_at (kind_of kind) n most s.now p) }
+    ensures { over result ≡ passed (list_at (kind_of kind) n most s.now p) }
 {
-    match count_at(0, most, s, p) {
-        Read::Value(c, q) => entries_at(kind, n, s, c, q),
-        Read::Fault(k, q) => Passed::Fault(k, q),
-    }
+    let (count, first) = count_at(0, most, s, p)?;
+    entries_at(kind, n, s, count, first)
 }

@@ -6,24 +6,24 @@
 mod descriptor; // the file that the script has open on descriptor 3
 pub mod words; // what the numbers say in words
 
-ghost use Rattle.std.specs.Prelude.{◌≤◌, leb, length, ◌≡◌};
+ghost use Rattle.std.specs.Prelude.{leb, ◌≡◌};
 ghost use Rattle.std.specs.Io.{ReadsAtMost};
-ghost use Rattle.programs.specs.Input.{Within};
 ghost use Rattle.programs.specs.Stack.{needed};
 
-use comparing::parts::same_part;
 use descriptor::open_answer;
 pub use descriptor::open_index;
 use meaning::Answer;
 use parsing::limits;
 use std::env::{Env, FillError};
+use std::fmt::Display;
 use std::fs::File;
-use std::io;
 use std::io::{Cursor, ErrorKind, Read, Write};
 use std::rt::Files;
+use std::{fmt, io};
 use verdicts::answers;
 
-// Room for a request and for a derivation, with a byte more, by which one that is too long is seen.
+// Room for a request and for a derivation, with a byte more, by which one that is too long is seen. The rooms here and in the programs are
+// arrays, since the project has no heap.
 pub const REQUEST_ROOM: usize = limits::REQUEST + 1;
 
 pub const DERIVATION_ROOM: usize = limits::DERIVATION + 1;
@@ -56,58 +56,66 @@ const ERROR_ROOM: usize = 256;
 // A sign for each fluent, and the end of the line.
 const SIGNS: usize = limits::FLUENTS + 1;
 
-// How many bytes were read, or why they can't be.
-#[derive(Clone, Copy)]
-pub enum Input {
-    Bytes(usize),
-    Unreadable(io::Error),
-}
-
 // One read, and another where a signal interrupts it.
 fn read_some<R: Read>(input: &mut R, buf: &mut [u8]) -> io::Result<usize>
     ensures { ReadsAtMost result buf.new }
 {
     for _ in 0..u64::MAX {
         match input.read(buf) {
-            Ok(n) => return Ok(n),
-            Err(error) => {
-                if error.kind() != ErrorKind::Interrupted {
-                    return Err(error);
-                }
-            }
+            Err(error) if error.kind() == ErrorKind::Interrupted => continue,
+            read => return read,
         }
     }
     Err(io::Error::from(ErrorKind::Interrupted))
 }
 
-// One read, behind the bytes that are there.
-fn read_on<R: Read>(input: &mut R, buf: &mut [u8], done: usize) -> Input
-    requires { done ≤ length buf.old }
-    ensures { Within done result buf.new }
-{
-    match read_some(input, &mut buf[done..]) {
-        Ok(more) => Input::Bytes(more),
-        Err(error) => Input::Unreadable(error),
-    }
-}
-
 // Reads until buf is full or the input ends.
-pub fn read_all<R: Read>(input: &mut R, buf: &mut [u8]) -> Input
-    ensures { Within 0 result buf.new }
+pub fn read_all<R: Read>(input: &mut R, buf: &mut [u8]) -> io::Result<usize>
+    ensures { ReadsAtMost result buf.new }
 {
     let mut done = 0;
     while done < buf.len() {
-        match read_on(input, buf, done) {
-            Input::Bytes(more) => {
-                if more == 0 {
-                    return Input::Bytes(done);
-                }
-                done += more;
-            }
-            Input::Unreadable(error) => return Input::Unreadable(error),
+        let more = read_some(input, &mut buf[done..])?;
+        if more == 0 {
+            break;
         }
+        done += more;
     }
-    Input::Bytes(done)
+    Ok(done)
+}
+
+// Reads standard input as far as buf goes. Where it can't be read a line says why, with the program's name.
+pub fn read_input<R: io::Input, E: Write>(
+    rt: &R,
+    err: &mut E,
+    program: &str,
+    buf: &mut [u8],
+) -> io::Result<usize>
+    ensures { ReadsAtMost result buf.new }
+{
+    let read = read_all(&mut rt.reader(), buf);
+    if let Err(error) = read {
+        fail(err, format_args!("{program}: standard input"), error);
+    }
+    read
+}
+
+// Reads a request from standard input, and answers it. What fails a line says, with the program's name.
+pub fn answer_input<R, E, F>(rt: &R, err: &mut E, program: &str, answer: F)
+where
+    R: io::Input,
+    E: Write,
+    F: FnOnce(&mut E, &[u8]) -> io::Result<()> + Drop,
+    requires { F.IsAlwaysCallable answer }
+{
+    // One byte more than a request may have: a longer one is refused whatever it holds.
+    let mut bytes = [0u8; REQUEST_ROOM];
+    let Ok(n) = read_input(rt, err, program, &mut bytes) else {
+        return;
+    };
+    if let Err(error) = answer(err, &bytes[..n]) {
+        fail(err, format_args!("{program}: standard output"), error);
+    }
 }
 
 // Opens the file of this name, which is text, for reading.
@@ -122,65 +130,92 @@ fn open_named<R: Files>(rt: &R, name: &[u8]) -> io::Result<R::File> {
 }
 
 // Reads the file of this name as far as buf goes.
-fn read_named<R: Files>(rt: &R, name: &[u8], buf: &mut [u8]) -> Input
-    ensures { Within 0 result buf.new }
+fn read_named<R: Files>(rt: &R, name: &[u8], buf: &mut [u8]) -> io::Result<usize>
+    ensures { ReadsAtMost result buf.new }
 {
-    match open_named(rt, name) {
-        Ok(mut file) => read_all(&mut file, buf),
-        Err(error) => Input::Unreadable(error),
-    }
+    let mut file = open_named(rt, name)?;
+    read_all(&mut file, buf)
 }
 
 // Reads the file of this name as far as buf goes. Where it can't be read a line says why, with `said` before the name.
 pub fn read_file<R: Files, E: Write>(
     rt: &R,
     err: &mut E,
-    said: &[u8],
+    said: &str,
     name: &[u8],
     buf: &mut [u8],
-) -> Input
-    ensures { Within 0 result buf.new }
+) -> io::Result<usize>
+    ensures { ReadsAtMost result buf.new }
 {
     let read = read_named(rt, name, buf);
-    if let Input::Unreadable(error) = read {
+    if let Err(error) = read {
         let _ = say_failed(err, said, name, error);
     }
     read
 }
 
-// What failed and why, in a line on standard error.
-pub fn fail<E: Write>(err: &mut E, what: &[u8], error: io::Error) {
-    let _ = say_failed(err, b"", what, error);
-}
-
-fn say_failed<E: Write>(err: &mut E, said: &[u8], what: &[u8], error: io::Error) -> io::Result<()> {
-    err.write_all(said)?;
-    err.write_all(what)?;
-    err.write_all(b": ")?;
-    put_reason(err, error)?;
-    err.write_all(b"\n")
-}
-
-// The error in words. Those of the system stand there without its number, which follows them in what std writes.
-fn put_reason<E: Write>(err: &mut E, error: io::Error) -> io::Result<()> {
-    let mut text = Cursor::new([0u8; ERROR_ROOM]);
-    write!(text, "{error}")?;
-    let length = text.position() as usize;
-    let bytes = text.into_inner();
-    if bytes.len() < length {
-        return Ok(());
+// The same of the file that the program's argument i names. Where the name itself can't be had, a line says so, with the program's name.
+pub fn read_argument<R: Env + Files, E: Write>(
+    rt: &R,
+    err: &mut E,
+    program: &str,
+    said: &str,
+    i: usize,
+    buf: &mut [u8],
+) -> io::Result<usize>
+    ensures { ReadsAtMost result buf.new }
+{
+    let mut name = [0u8; NAME_ROOM];
+    match word_at(rt, i, &mut name) {
+        Ok(n) => read_file(rt, err, said, &name[..n], buf),
+        Err(error) => {
+            fail(err, format_args!("{program}: file name"), error);
+            Err(error)
+        }
     }
-    match str::from_utf8(&bytes[..length]) {
-        Ok(words) => err.write_all(without_number(words).as_bytes()),
-        Err(_) => Ok(()),
+}
+
+// What failed and why, in a line on standard error.
+pub fn fail<E: Write, D: Display + Drop>(err: &mut E, what: D, error: io::Error) {
+    let _ = say_failed(err, what, b"", error);
+}
+
+// A name may be no text, so that it is written as bytes.
+fn say_failed<E: Write, D: Display + Drop>(
+    err: &mut E,
+    what: D,
+    name: &[u8],
+    error: io::Error,
+) -> io::Result<()> {
+    write!(err, "{what}")?;
+    err.write_all(name)?;
+    let reason = Reason(error);
+    writeln!(err, ": {reason}")
+}
+
+// An error in words. Those of the system stand there without its number, which follows them in what std writes.
+#[derive(Clone, Copy)]
+struct Reason(io::Error);
+
+impl Display for Reason {
+    fn fmt<W: fmt::Write>(&self, f: &mut fmt::Formatter<W>) -> fmt::Result {
+        let error = self.0;
+        let mut text = Cursor::new([0u8; ERROR_ROOM]);
+        write!(text, "{error}").map_err(|_| fmt::Error)?;
+        let length = text.position() as usize;
+        let bytes = text.into_inner();
+        let words = bytes
+            .get(..length)
+            .and_then(|said| str::from_utf8(said).ok())
+            .unwrap_or_default();
+        f.write_str(without_number(words))
     }
 }
 
 fn without_number(words: &str) -> &str {
-    match words.split_once(" (os error ") {
-        Some((before, _)) => before,
-        None => words,
-    }
+    words
+        .split_once(" (os error ")
+        .map_or(words, |(before, _)| before)
 }
 
 // How many words the program was started with, its own name among them.
@@ -209,72 +244,48 @@ pub fn word_at(rt: &impl Env, i: usize, buf: &mut [u8]) -> io::Result<usize>
 pub fn is_word(rt: &impl Env, i: usize, word: &[u8]) -> bool {
     let mut text = [0u8; NAME_ROOM];
     match word_at(rt, i, &mut text) {
-        Ok(n) => same_part(&text[..n], word),
-        Err(_) => same_part(b"", word),
+        Ok(n) => &text[..n] == word,
+        Err(_) => false,
     }
 }
 
 // The argument that is so many from the end, counted from 1, is this option.
 pub fn option_asked(rt: &impl Env, from_end: usize, option: &[u8]) -> bool {
     let count = word_count(rt);
-    if count <= from_end {
-        return false;
-    }
-    is_word(rt, count - from_end, option)
+    count > from_end && is_word(rt, count - from_end, option)
 }
 
-// The number that an argument writes, or that it writes none.
-#[derive(Clone, Copy)]
-pub enum Asked {
-    Number(u32),
-    Nothing,
-}
-
-// The number that these decimal digits write, as far as 32 bits go.
-pub fn number_of(text: &[u8]) -> Asked {
-    let mut number = 0u64;
-    let mut i = 0;
-    while i < text.len() {
-        let digit = text[i];
-        if digit < b'0' {
-            return Asked::Nothing;
-        }
-        if digit > b'9' {
-            return Asked::Nothing;
-        }
-        let value = digit - b'0';
-        number = number * 10 + value as u64;
-        if number > 4294967295 {
-            return Asked::Nothing;
-        }
-        i += 1;
+// The number that these decimal digits write, as far as 32 bits go. `parse` alone would take a sign before them.
+pub fn number_of(text: &[u8]) -> Option<u32> {
+    if !text.iter().all(|byte| byte.is_ascii_digit()) {
+        return None;
     }
-    if i == 0 {
-        return Asked::Nothing;
-    }
-    Asked::Number(number as u32)
+    str::from_utf8(text).ok()?.parse::<u32>().ok()
 }
 
 // The number that argument i writes. One that is missing, or longer than any number, writes none.
-pub fn number_at(rt: &impl Env, i: usize) -> Asked {
+pub fn number_at(rt: &impl Env, i: usize) -> Option<u32> {
     let mut text = [0u8; NAME_ROOM];
-    match word_at(rt, i, &mut text) {
-        Ok(n) => number_of(&text[..n]),
-        Err(_) => Asked::Nothing,
-    }
+    let n = word_at(rt, i, &mut text).ok()?;
+    number_of(&text[..n])
 }
 
 // The program has so many words of its name and options. Without an argument beside them BUDGET, and with one, which comes first, the number that it
 // writes.
-pub fn budget_asked(rt: &impl Env, words: usize) -> Asked {
-    let count = word_count(rt);
-    if count <= words {
-        return Asked::Number(BUDGET);
+pub fn budget_asked(rt: &impl Env, words: usize) -> Option<u32> {
+    match word_count(rt).saturating_sub(words) {
+        0 => Some(BUDGET),
+        1 => number_at(rt, 1),
+        _ => None,
     }
-    if count - words > 1 {
-        return Asked::Nothing;
-    }
-    number_at(rt, 1)
+}
+
+// Says what a budget is, with the program's name.
+pub fn say_budget<E: Write>(err: &mut E, program: &str) {
+    let _ = writeln!(
+        err,
+        "{program}: a budget is a decimal number up to 4294967295"
+    );
 }
 
 // The word behind this label, without the blanks between them.
@@ -285,10 +296,8 @@ fn word_behind<'a>(text: &'a str, label: &str) -> Option<&'a str> {
 
 // What the system says of the process in this file, as far as there is room for it.
 fn told_in<'a, R: Files>(rt: &R, name: &[u8], room: &'a mut [u8]) -> Option<&'a str> {
-    match read_named(rt, name, room) {
-        Input::Bytes(n) => str::from_utf8(&room[..n]).ok(),
-        Input::Unreadable(_) => None,
-    }
+    let n = read_named(rt, name, room).ok()?;
+    str::from_utf8(&room[..n]).ok()
 }
 
 // The soft limit of the process's stack in bytes, which stands first in its line. Where the system doesn't tell it, it is 0.
@@ -302,10 +311,7 @@ fn limit_told(text: &str) -> u64 {
 
 fn stack_limit(rt: &impl Files) -> u64 {
     let mut room = [0u8; LIMITS_ROOM];
-    match told_in(rt, b"/proc/self/limits", &mut room) {
-        Some(text) => limit_told(text),
-        None => 0,
-    }
+    told_in(rt, b"/proc/self/limits", &mut room).map_or(0, limit_told)
 }
 
 // What the walk of a request of this length may need.
@@ -313,9 +319,10 @@ fn stack_needed(length: usize) -> u64
     ensures { result ≡ needed length }
 {
     if length <= SHORT {
-        return SHORT_STACK_NEEDED;
+        SHORT_STACK_NEEDED
+    } else {
+        STACK_NEEDED
     }
-    STACK_NEEDED
 }
 
 // A stack without a limit is told by the largest number.
@@ -329,7 +336,7 @@ fn is_enough(needed: u64, limit: u64) -> bool
 pub fn stack_is_enough<R: Files, E: Write>(
     rt: &R,
     err: &mut E,
-    said: &[u8],
+    said: &str,
     name: &[u8],
     length: usize,
 ) -> bool {
@@ -344,12 +351,12 @@ pub fn stack_is_enough<R: Files, E: Write>(
 
 fn say_too_small<E: Write>(
     err: &mut E,
-    said: &[u8],
+    said: &str,
     name: &[u8],
     needed: u64,
     limit: u64,
 ) -> io::Result<()> {
-    err.write_all(said)?;
+    write!(err, "{said}")?;
     err.write_all(name)?;
     writeln!(
         err,
@@ -357,32 +364,26 @@ fn say_too_small<E: Write>(
     )
 }
 
-pub fn put(rt: &impl Print, bytes: &[u8]) -> io::Result<()> {
-    rt.write_all(bytes)
-}
-
-pub fn put_number(rt: &impl Print, n: u64) -> io::Result<()> {
-    rt.print(n)
-}
-
-// A line with three numbers.
-pub fn put_line<W: Write>(to: &mut W, first: u64, second: u64, third: u64) -> io::Result<()> {
-    writeln!(to, "{first} {second} {third}")
-}
-
-// The same on descriptor 3, on which a script is told the answer of a program that writes bytes.
-pub fn tell<R: Files>(rt: &R, first: u64, second: u64, third: u64) -> io::Result<()> {
+// The line is told on descriptor 3, where a script looks for the answer of a program that prints something else.
+pub fn tell<R: Files, D: Display + Drop>(rt: &R, line: D) -> io::Result<()> {
     let mut script = open_answer(rt)?;
-    put_line(&mut script, first, second, third)
+    writeln!(script, "{line}")
 }
 
-fn put_answer<W: Write>(to: &mut W, answer: Answer) -> io::Result<()> {
-    put_line(
-        to,
-        answer.number as u64,
-        answer.place as u64,
-        answer.count as u64,
-    )
+// An answer to a request as a program prints it: its number, place and count.
+#[derive(Clone, Copy)]
+pub struct Numbers(pub Answer);
+
+impl Display for Numbers {
+    fn fmt<W: fmt::Write>(&self, f: &mut fmt::Formatter<W>) -> fmt::Result {
+        let Answer {
+            number,
+            place,
+            count,
+            ..
+        } = self.0;
+        write!(f, "{number} {place} {count}")
+    }
 }
 
 // The bytes that a call has written to the start of a room, or for every answer but 0 the answer on standard error.
@@ -393,13 +394,13 @@ fn put_start<E: Write>(
     room: &[u8],
 ) -> io::Result<()> {
     if answer.number != answers::VERIFIED {
-        return put_answer(err, answer);
+        let numbers = Numbers(answer);
+        return writeln!(err, "{numbers}");
     }
-    let length = answer.count as usize;
-    if room.len() < length {
-        return Err(io::Error::other("more was written than there is room for"));
+    match room.get(..answer.count as usize) {
+        Some(written) => rt.write_all(written),
+        None => Err(io::Error::other("more was written than there is room for")),
     }
-    put(rt, &room[..length])
 }
 
 // The same, and where the script asks for it, it is told the answer as well, of which it makes the exit status.
@@ -412,20 +413,16 @@ pub fn put_written<R: Print + Files, E: Write>(
 ) -> io::Result<()> {
     put_start(rt, err, answer, room)?;
     if told {
-        return tell(
-            rt,
-            answer.number as u64,
-            answer.place as u64,
-            answer.count as u64,
-        );
+        return tell(rt, Numbers(answer));
     }
     Ok(())
 }
 
+// The sign of a mark.
 fn sign(mark: u8) -> u8 {
     match mark {
-        0 => b'?',
-        1 => b'+',
+        limits::UNKNOWN_MARK => b'?',
+        limits::TRUE_MARK => b'+',
         _ => b'-',
     }
 }
@@ -433,60 +430,44 @@ fn sign(mark: u8) -> u8 {
 // The line with a sign for each fluent.
 pub fn put_state(rt: &impl Print, state: &[u8; limits::FLUENTS], fluents: u8) -> io::Result<()> {
     let mut line = [b'\n'; SIGNS];
-    let mut f = 0;
-    while f < limits::FLUENTS {
-        if f >= fluents as usize {
-            break;
-        }
-        line[f] = sign(state[f]);
-        f += 1;
+    let count = state.len().min(usize::from(fluents));
+    for (place, mark) in line.iter_mut().zip(&state[..count]) {
+        *place = sign(*mark);
     }
-    let end = f + 1;
-    put(rt, &line[..end])
+    rt.write_all(&line[..=count])
 }
 
 // The value that is known of fluent f, which is one less than its mark, or `?`. A space stands before it where f is not the first.
 fn put_value(rt: &impl Print, f: usize, mark: u8) -> io::Result<()> {
-    if f > 0 {
-        put(rt, b" ")?;
-    }
+    let space = if f > 0 { " " } else { "" };
     if mark == limits::UNKNOWN_MARK {
-        return put(rt, b"?");
+        return print!(rt; "{space}?");
     }
-    put_number(rt, (mark - 1) as u64)
+    let value = mark - 1;
+    print!(rt; "{space}{value}")
 }
 
 // The line with the value of each fluent.
 pub fn put_values(rt: &impl Print, state: &[u8; limits::FLUENTS], fluents: u8) -> io::Result<()> {
-    let mut f = 0;
-    while f < limits::FLUENTS {
-        if f >= fluents as usize {
-            break;
-        }
-        put_value(rt, f, state[f])?;
-        f += 1;
+    for (f, mark) in state.iter().take(usize::from(fluents)).enumerate() {
+        put_value(rt, f, *mark)?;
     }
-    put(rt, b"\n")
-}
-
-// A number behind a space.
-fn put_apart<W: Write>(to: &mut W, number: u8) -> io::Result<()> {
-    write!(to, " {number}")
+    println!(rt)
 }
 
 // The first so many numbers of a row that has a place for each fluent, each behind a space.
-pub fn put_counted<W: Write>(
-    to: &mut W,
-    row: &[u8; limits::FLUENTS],
-    count: usize,
-) -> io::Result<()> {
-    let mut i = 0;
-    while i < limits::FLUENTS {
-        if i >= count {
-            break;
+#[derive(Clone, Copy)]
+pub struct Counted<'a> {
+    pub row: &'a [u8; limits::FLUENTS],
+    pub count: usize,
+}
+
+impl Display for Counted<'_> {
+    fn fmt<W: fmt::Write>(&self, f: &mut fmt::Formatter<W>) -> fmt::Result {
+        let row = self.row;
+        for number in row.iter().take(self.count) {
+            write!(f, " {number}")?;
         }
-        put_apart(to, row[i])?;
-        i += 1;
+        Ok(())
     }
-    Ok(())
 }

@@ -1,9 +1,15 @@
 // What the answers' numbers say in words (FORMAT 12.34), which are those of the C header and of the Rust crate.
-use std::io;
-use std::io::Write;
+use std::fmt;
+use std::fmt::Display;
 
-pub fn put_words<W: Write>(to: &mut W, number: u8) -> io::Result<()> {
-    to.write_all(words(number).as_bytes())
+// The number of an answer, which is written in words.
+#[derive(Clone, Copy)]
+pub struct InWords(pub u8);
+
+impl Display for InWords {
+    fn fmt<W: fmt::Write>(&self, f: &mut fmt::Formatter<W>) -> fmt::Result {
+        f.write_str(words(self.0))
+    }
 }
 
 fn words(number: u8) -> &'static str {

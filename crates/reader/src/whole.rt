@@ -3,7 +3,7 @@ ghost use Rattle.meaning.specs.Limits.{format};
 ghost use Rattle.meaning.specs.declared.Form.TheVariants.{Flags, Valued};
 ghost use Rattle.meaning.specs.Reading.{read_request};
 ghost use Rattle.meaning.specs.Guards.{read_guarded};
-ghost use Rattle.parsing.specs.Read.{passed};
+ghost use Rattle.parsing.specs.Read.{over, passed};
 ghost use Rattle.reading.specs.Noted.{noting, outcome};
 ghost use Rattle.reading.specs.Requested.{Starts, request_noted, guarded_noted};
 ghost use Rattle.reader.specs.Sections.{sections_as, sections_read, actions_place, up_to, guards_first};
@@ -11,8 +11,9 @@ ghost use Rattle.reader.specs.Sections.{sections_as, sections_read, actions_plac
 use super::{Reader, new};
 use meaning::Form;
 use parsing::bytes::wide;
+use parsing::faults::{Fault, Refusal};
 use parsing::limits;
-use parsing::lists::{Kind, Passed, list_at};
+use parsing::lists::{Kind, list_at};
 use reading::notes;
 use reading::notes::{Notes, put};
 use reading::requests::{request_at, table_at};
@@ -23,65 +24,54 @@ fn actions_place(form: Form, p: usize, n: usize) -> usize
     requires n_bound { n < 65536 }
     ensures { result ≡ actions_place form p n }
 {
-    let second = p + 1;
     match form {
-        Form::Flags => second,
-        Form::Valued => second + n,
+        Form::Flags => p + 1,
+        Form::Valued => p + 1 + n,
     }
 }
 
 // All eight sections, from a place on.
-fn sections_as(form: Form, s: &[u8], p: usize, t: &mut Notes) -> Passed
+fn sections_as(form: Form, s: &[u8], p: usize, t: &mut Notes) -> Result<usize, Fault>
     requires starts { Starts form p }
     requires s_len_bound { length s.now ≤ format.request }
     ensures { outcome result t.new ≡ noting (request_noted form) (sections_as form s.now p) t.old }
 {
-    match table_at(form, s, p, t) {
-        Passed::To(q) => {
-            let n = wide(s[p]);
-            let second = actions_place(form, p, n);
-            let m = wide(s[second]);
-            request_at(form, n, m, s, q, t)
-        }
-        Passed::Fault(k, q) => Passed::Fault(k, q),
-    }
-}
-
-fn sections_at(s: &[u8], p: usize, t: &mut Notes) -> Passed
-    requires { length s.now ≤ format.request }
-    ensures { outcome result t.new ≡ noting (request_noted Flags) (sections_read s.now p) t.old }
-{
-    sections_as(Form::Flags, s, p, t)
+    let plan = table_at(form, s, p, t)?;
+    let n = wide(s[p]);
+    let second = actions_place(form, p, n);
+    let m = wide(s[second]);
+    request_at(form, n, m, s, plan, t)
 }
 
 // The same, from where a reader stands.
-fn sections<'a>(r: Reader<'a>, t: &mut Notes) -> Passed
-    requires { length r.src.now ≤ format.request }
-    ensures { outcome result t.new ≡ noting (request_noted Flags) (sections_read r.entry.src.now r.entry.at) t.old }
+fn sections<'a>(r: Reader<'a>, form: Form, t: &mut Notes) -> Result<usize, Fault>
+    requires starts { Starts form r.at }
+    requires s_len_bound { length r.src.now ≤ format.request }
+    ensures { outcome result t.new ≡ noting (request_noted form) (sections_as form r.entry.src.now r.entry.at) t.old }
 {
-    sections_at(r.src, r.at, t)
+    sections_as(form, r.src, r.at, t)
 }
 
 // All eight sections of an input, through a reader; whoever calls this needs none.
-fn read_sections(s: &[u8], t: &mut Notes) -> Passed
+fn read_sections(form: Form, s: &[u8], t: &mut Notes) -> Result<usize, Fault>
     requires { length s.now ≤ format.request }
-    ensures { outcome result t.new ≡ noting (request_noted Flags) (sections_read s.now 0) t.old }
+    ensures { outcome result t.new ≡ noting (request_noted form) (sections_as form s.now 0) t.old }
 {
-    sections(new(s), t)
+    sections(new(s), form, t)
 }
 
 // Nothing stands after what was read up to e.
-fn nothing_after(s: &[u8], e: usize) -> Passed
-    ensures { result ≡ passed (up_to s.now e) }
+fn nothing_after(s: &[u8], e: usize) -> Result<usize, Fault>
+    ensures { over result ≡ passed (up_to s.now e) }
 {
     if e < s.len() {
-        return Passed::Fault(limits::BYTES_AFTER, e);
+        return Err(Refusal::BytesAfter.at(e));
     }
-    Passed::To(e)
+    Ok(e)
 }
 
 // The guards, behind all eight sections that end at q, and nothing after them.
-fn guards_at(s: &[u8], q: usize, t: &mut Notes) -> Passed
+fn guards_at(s: &[u8], q: usize, t: &mut Notes) -> Result<usize, Fault>
     requires s_len_bound { length s.now ≤ format.request }
     requires q_bound { q < 65536 }
     requires s_nonzero { 0 < length s.now }
@@ -89,50 +79,29 @@ fn guards_at(s: &[u8], q: usize, t: &mut Notes) -> Passed
     ensures { outcome result t.new ≡ guards_first s.now q t.old }
 {
     let n = wide(s[0]);
-    match list_at(Kind::Literals, n, limits::GUARDS, s, q) {
-        Passed::To(e) => {
-            put(t, notes::GUARDS, q);
-            nothing_after(s, e)
-        }
-        Passed::Fault(k, p) => Passed::Fault(k, p),
-    }
+    let end = list_at(Kind::Literals, n, limits::GUARDS, s, q)?;
+    put(t, notes::GUARDS, q);
+    nothing_after(s, end)
 }
 
 // A guarded request: at most the limit, all nine sections, and nothing after them.
-pub fn read_guarded(s: &[u8], t: &mut Notes) -> Passed
+pub fn read_guarded(s: &[u8], t: &mut Notes) -> Result<usize, Fault>
     ensures { outcome result t.new ≡ noting guarded_noted (read_guarded format s.now) t.old }
 {
     if limits::REQUEST < s.len() {
-        return Passed::Fault(limits::TOO_LONG, 0);
+        return Err(Refusal::TooLong.at(0));
     }
-    match read_sections(s, t) {
-        Passed::To(q) => guards_at(s, q, t),
-        Passed::Fault(k, q) => Passed::Fault(k, q),
-    }
+    let guards = read_sections(Form::Flags, s, t)?;
+    guards_at(s, guards, t)
 }
 
-// A request: at most the limit, all eight sections, and nothing after them.
-pub fn read_request(s: &[u8], t: &mut Notes) -> Passed
-    ensures { outcome result t.new ≡ noting (request_noted Flags) (read_request format Flags s.now) t.old }
+// A request of a form: at most the limit, all eight sections, and nothing after them.
+pub fn read_request(form: Form, s: &[u8], t: &mut Notes) -> Result<usize, Fault>
+    ensures { outcome result t.new ≡ noting (request_noted form) (read_request format form s.now) t.old }
 {
     if limits::REQUEST < s.len() {
-        return Passed::Fault(limits::TOO_LONG, 0);
+        return Err(Refusal::TooLong.at(0));
     }
-    match read_sections(s, t) {
-        Passed::To(e) => nothing_after(s, e),
-        Passed::Fault(k, q) => Passed::Fault(k, q),
-    }
-}
-
-// A request with values: at most the limit, all eight sections, and nothing after them.
-pub fn read_values(s: &[u8], t: &mut Notes) -> Passed
-    ensures { outcome result t.new ≡ noting (request_noted Valued) (read_request format Valued s.now) t.old }
-{
-    if limits::REQUEST < s.len() {
-        return Passed::Fault(limits::TOO_LONG, 0);
-    }
-    match sections_as(Form::Valued, s, 0, t) {
-        Passed::To(e) => nothing_after(s, e),
-        Passed::Fault(k, q) => Passed::Fault(k, q),
-    }
+    let end = read_sections(form, s, t)?;
+    nothing_after(s, end)
 }

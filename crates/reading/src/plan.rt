@@ -8,9 +8,9 @@ ghost use Rattle.reading.specs.Planned.{number_after, branch_noted, item_noted, 
 use super::notes;
 use super::notes::{Notes, put};
 use meaning::Form;
-use parsing::bytes::{Read, byte_at, count_at, two_bytes_at};
+use parsing::bytes::{byte_at, count_at, two_bytes_at};
+use parsing::faults::{Fault, Refusal};
 use parsing::limits;
-use parsing::lists::Passed;
 use parsing::table_lines::body_at;
 
 // What follows an item: the item met next, or where it is the last of its sequence what stands around the sequence.
@@ -58,7 +58,7 @@ fn sequence_at(
     before: usize,
     up: usize,
     t: &mut Notes,
-) -> Read
+) -> Result<(usize, usize), Fault>
     requires counted { Counted form s.now }
     requires n_le_fluents { n ≤ format.fluents }
     requires before_le_format { before ≤ format.items }
@@ -66,29 +66,17 @@ fn sequence_at(
     requires s_len_bound { length s.now ≤ format.derivation }
     ensures { outcome_met result t.new ≡ noting_met (sequence_noted form up before start t.old) (sequence_at format form n m s.now (branching_at format form n m s.now deep) start before) }
 {
-    match two_bytes_at(s, start) {
-        Read::Value(c, q) => {
-            let mut left = c;
-            let mut p = q;
-            let mut met = before;
-            while 0 < left {
-                match item_at(form, n, m, deep, s, p, met, t) {
-                    Read::Value(more, e) => {
-                        note_next(left, met, more, up, t);
-                        p = e;
-                        met = more;
-                        left -= 1;
-                    }
-                    Read::Fault(k, e) => {
-                        return Read::Fault(k, e);
-                    }
-                }
-            }
-            note_branch(before, met, p, t);
-            Read::Value(met, p)
-        }
-        Read::Fault(k, q) => Read::Fault(k, q),
+    let (count, first) = two_bytes_at(s, start)?;
+    let mut p = first;
+    let mut met = before;
+    for i in 0..count {
+        let (more, after) = item_at(form, n, m, deep, s, p, met, t)?;
+        note_next(count - i, met, more, up, t);
+        p = after;
+        met = more;
     }
+    note_branch(before, met, p, t);
+    Ok((met, p))
 }
 
 // One item: the items met up to its end.
@@ -102,30 +90,25 @@ fn item_at(
     p: usize,
     met: usize,
     t: &mut Notes,
-) -> Read
+) -> Result<(usize, usize), Fault>
     requires counted { Counted form s.now }
     requires n_le_fluents { n ≤ format.fluents }
     requires s_len_bound { length s.now ≤ format.derivation }
     ensures { outcome_met result t.new ≡ noting_met (item_noted form met t.old) (item_at format form n m s.now (branching_at format form n m s.now deep) p met) }
 {
-    match byte_at(s, p) {
-        Read::Value(x, q) => {
-            if limits::ITEMS <= met {
-                return Read::Fault(limits::TOO_MANY_ITEMS, p);
-            }
-            if x == limits::BRANCHING_BYTE as usize {
-                put(t, notes::ITEM_PLACE + met, p);
-                return branching_at(form, n, m, deep, s, p, met, t);
-            }
-            if m <= x {
-                return Read::Fault(limits::TOO_LARGE, p);
-            }
-            put(t, notes::ITEM_PLACE + met, p);
-            let more = met + 1;
-            Read::Value(more, q)
-        }
-        Read::Fault(k, q) => Read::Fault(k, q),
+    let (x, after) = byte_at(s, p)?;
+    if limits::ITEMS <= met {
+        return Err(Refusal::TooManyItems.at(p));
     }
+    if x == limits::BRANCHING_BYTE as usize {
+        put(t, notes::ITEM_PLACE + met, p);
+        return branching_at(form, n, m, deep, s, p, met, t);
+    }
+    if m <= x {
+        return Err(Refusal::TooLarge.at(p));
+    }
+    put(t, notes::ITEM_PLACE + met, p);
+    Ok((met + 1, after))
 }
 
 // The branching that is item i and whose byte 255 stands at `start`.
@@ -139,7 +122,7 @@ fn branching_at(
     start: usize,
     i: usize,
     t: &mut Notes,
-) -> Read
+) -> Result<(usize, usize), Fault>
     requires counted { Counted form s.now }
     requires n_le_fluents { n ≤ format.fluents }
     requires s_len_bound { length s.now ≤ format.derivation }
@@ -148,32 +131,17 @@ fn branching_at(
     ensures { outcome_met result t.new ≡ noting_met (inside_noted form i t.old) (branching_at format form n m s.now deep start (i + 1)) }
 {
     if deep == 0 {
-        return Read::Fault(limits::NESTED_TOO_DEEP, start);
+        return Err(Refusal::NestedTooDeep.at(start));
     }
-    let inner = deep - 1;
-    let count = start + 1;
-    let up = notes::AROUND_FROM + i;
-    match count_at(1, limits::BRANCHES, s, count) {
-        Read::Value(c, q) => {
-            let mut left = c;
-            let mut p = q;
-            let mut met = i + 1;
-            while 0 < left {
-                match branch_at(form, n, m, inner, s, p, met, up, t) {
-                    Read::Value(more, e) => {
-                        p = e;
-                        met = more;
-                        left -= 1;
-                    }
-                    Read::Fault(k, e) => {
-                        return Read::Fault(k, e);
-                    }
-                }
-            }
-            Read::Value(met, p)
-        }
-        Read::Fault(k, q) => Read::Fault(k, q),
+    let (count, first) = count_at(1, limits::BRANCHES, s, start + 1)?;
+    let mut p = first;
+    let mut met = i + 1;
+    for _ in 0..count {
+        let (more, after) = branch_at(form, n, m, deep - 1, s, p, met, notes::AROUND_FROM + i, t)?;
+        p = after;
+        met = more;
     }
+    Ok((met, p))
 }
 
 // A branch: its condition and its sequence.
@@ -188,7 +156,7 @@ fn branch_at(
     met: usize,
     up: usize,
     t: &mut Notes,
-) -> Read
+) -> Result<(usize, usize), Fault>
     requires counted { Counted form s.now }
     requires n_le_fluents { n ≤ format.fluents }
     requires met_le_format { met ≤ format.items }
@@ -196,14 +164,19 @@ fn branch_at(
     requires s_len_bound { length s.now ≤ format.derivation }
     ensures { outcome_met result t.new ≡ branch_noting form n m deep up s.now p met t.old }
 {
-    match body_at(form, n, s, p) {
-        Passed::To(q) => sequence_at(form, n, m, deep, s, q, met, up, t),
-        Passed::Fault(k, q) => Read::Fault(k, q),
-    }
+    let sequence = body_at(form, n, s, p)?;
+    sequence_at(form, n, m, deep, s, sequence, met, up, t)
 }
 
 // The plan: how many items it has.
-pub fn plan_at(form: Form, n: usize, m: usize, s: &[u8], start: usize, t: &mut Notes) -> Read
+pub fn plan_at(
+    form: Form,
+    n: usize,
+    m: usize,
+    s: &[u8],
+    start: usize,
+    t: &mut Notes,
+) -> Result<(usize, usize), Fault>
     requires counted { Counted form s.now }
     requires n_le_fluents { n ≤ format.fluents }
     requires s_len_bound { length s.now ≤ format.derivation }

@@ -2,15 +2,16 @@ ghost use Rattle.std.specs.Prelude.{◌≡◌, ◌≤◌, ◌<◌, length, set};
 ghost use Rattle.meaning.specs.Limits.{format};
 ghost use Rattle.meaning.specs.Reading.{repeated, section_at};
 ghost use Rattle.parsing.specs.Masks.{Counted};
+ghost use Rattle.parsing.specs.Read.{numbered};
 ghost use Rattle.reading.specs.Noted;
 ghost use Rattle.reading.specs.Noted.{section_of, line_at, line_read, line_noted, none_yet, lines_noted, count_slot, section_noted, three_sections, noting, outcome, line_numbers};
 
 use super::notes;
 use super::notes::{Notes, append_line, note_pair, put};
 use meaning::Form;
-use parsing::bytes::{Read, wide};
+use parsing::bytes::wide;
+use parsing::faults::{Fault, Refusal};
 use parsing::limits;
-use parsing::lists::Passed;
 use parsing::table_lines::{effect_at, executability_at, knowledge_at};
 
 // Sections 3, 4 and 5.
@@ -22,10 +23,17 @@ pub enum Section {
 }
 
 // A line: its action.
-fn line_at(form: Form, c: Section, n: usize, m: usize, s: &[u8], p: usize) -> Read
+fn line_at(
+    form: Form,
+    c: Section,
+    n: usize,
+    m: usize,
+    s: &[u8],
+    p: usize,
+) -> Result<(usize, usize), Fault>
     requires counted { Counted form s.now }
     requires n_le_fluents { n ≤ format.fluents }
-    ensures { result ≡ line_read (section_of c) (line_at form (section_of c) n m s.now p) }
+    ensures { numbered result ≡ line_read (section_of c) (line_at form (section_of c) n m s.now p) }
 {
     match c {
         Section::Effects => effect_at(form, n, m, s, p),
@@ -59,33 +67,23 @@ fn lines_from(
     count: u8,
     start: usize,
     t: &mut Notes,
-) -> Passed
+) -> Result<usize, Fault>
     requires counted { Counted form s.now }
     requires n_le_fluents { n ≤ format.fluents }
     requires m_le_actions { m ≤ format.actions }
     requires s_len_bound { length s.now ≤ format.request }
     ensures { outcome result t.new ≡ noting (lines_noted (section_of c) 0 none_yet) (repeated (line_at form (section_of c) n m s.now) count start) t.old }
 {
-    let end = wide(count);
-    let mut k = 0;
     let mut p = start;
     let mut last = [0u8; limits::ACTIONS];
-    while k < end {
-        match line_at(form, c, n, m, s, p) {
-            Read::Value(a, e) => {
-                let q = p + 1;
-                let f = wide(s[q]);
-                k += 1;
-                note_line(c, last[a], k, p, a, f, t);
-                last[a] = k as u8;
-                p = e;
-            }
-            Read::Fault(number, at) => {
-                return Passed::Fault(number, at);
-            }
-        }
+    for k in 0..wide(count) {
+        let (a, after) = line_at(form, c, n, m, s, p)?;
+        let f = wide(s[p + 1]);
+        note_line(c, last[a], k + 1, p, a, f, t);
+        last[a] = (k + 1) as u8;
+        p = after;
     }
-    Passed::To(p)
+    Ok(p)
 }
 
 fn count_slot(c: Section) -> usize
@@ -114,7 +112,7 @@ pub fn section_at(
     s: &[u8],
     p: usize,
     t: &mut Notes,
-) -> Passed
+) -> Result<usize, Fault>
     requires counted { Counted form s.now }
     requires n_le_fluents { n ≤ format.fluents }
     requires m_le_actions { m ≤ format.actions }
@@ -122,26 +120,28 @@ pub fn section_at(
     ensures { outcome result t.new ≡ noting (section_noted (section_of c)) (section_at (line_at form (section_of c) n m s.now) s.now p) t.old }
 {
     if s.len() <= p {
-        return Passed::Fault(limits::ENDS_TOO_SOON, s.len());
+        return Err(Refusal::EndsTooSoon.at(s.len()));
     }
-    let q = p + 1;
     note_count(c, s[p], t);
-    lines_from(form, c, n, m, s, s[p], q, t)
+    lines_from(form, c, n, m, s, s[p], p + 1, t)
 }
 
 // Sections 3 to 5.
-pub fn three_sections(form: Form, n: usize, m: usize, s: &[u8], p: usize, t: &mut Notes) -> Passed
+pub fn three_sections(
+    form: Form,
+    n: usize,
+    m: usize,
+    s: &[u8],
+    p: usize,
+    t: &mut Notes,
+) -> Result<usize, Fault>
     requires counted { Counted form s.now }
     requires n_le_fluents { n ≤ format.fluents }
     requires m_le_actions { m ≤ format.actions }
     requires s_len_bound { length s.now ≤ format.request }
     ensures { outcome result t.new ≡ three_sections form n m s.now p t.old }
 {
-    match section_at(form, Section::Effects, n, m, s, p, t) {
-        Passed::To(q) => match section_at(form, Section::Executability, n, m, s, q, t) {
-            Passed::To(r) => section_at(form, Section::Knowledge, n, m, s, r, t),
-            Passed::Fault(k, r) => Passed::Fault(k, r),
-        },
-        Passed::Fault(k, q) => Passed::Fault(k, q),
-    }
+    let executability = section_at(form, Section::Effects, n, m, s, p, t)?;
+    let knowledge = section_at(form, Section::Executability, n, m, s, executability, t)?;
+    section_at(form, Section::Knowledge, n, m, s, knowledge, t)
 }

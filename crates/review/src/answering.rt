@@ -1,53 +1,39 @@
 // One answer: its inputs are read, the call is made, and what it answers is said.
-ghost use Rattle.programs.specs.Input.{Within};
+ghost use Rattle.std.specs.Io.{ReadsAtMost};
 
 use super::arguments::{Command, name_at};
 use super::printing::{put_known, put_numbers, put_part};
-use comparing::parts::same_part;
 use glintstring::check_calls::{check, check_whether};
 use glintstring::judging::judge;
 use meaning::Answer;
 use parsing::limits;
-use programs::words::put_words;
-use programs::{
-    DERIVATION_ROOM, Input, NAME_ROOM, REQUEST_ROOM, fail, put, read_all, read_file,
-    stack_is_enough,
-};
+use programs::words::InWords;
+use programs::{DERIVATION_ROOM, NAME_ROOM, REQUEST_ROOM, read_file, read_input, stack_is_enough};
 use std::env::Env;
 use std::io;
 use std::io::Write;
 use std::rt::Files;
 use verdicts::answers;
 
-// What became of a request, or of a request with a derivation: answer 0, another answer, none, or one that can't be printed.
+// What became of a request, or of a request with a derivation: answer 0, another answer, or none.
 #[derive(Clone, Copy)]
 pub enum Outcome {
     Passes,
     Other,
     Unanswered,
-    Unwritten(io::Error),
 }
 
 fn is_standard_input(name: &[u8]) -> bool {
-    same_part(name, b"-")
+    matches!(name, b"-")
 }
 
-fn put_name(rt: &impl Print, name: &[u8]) -> io::Result<()> {
+// What is said of an input's name.
+fn said_name(name: &[u8]) -> &[u8] {
     if is_standard_input(name) {
-        return put(rt, b"standard input");
+        b"standard input"
+    } else {
+        name
     }
-    put(rt, name)
-}
-
-// Reads standard input as far as buf goes, or says why it can't be read.
-fn read_input<R: io::Input, E: Write>(rt: &R, err: &mut E, buf: &mut [u8]) -> Input
-    ensures { Within 0 result buf.new }
-{
-    let read = read_all(&mut rt.reader(), buf);
-    if let Input::Unreadable(error) = read {
-        fail(err, b"review: standard input", error);
-    }
-    read
 }
 
 // Reads the input of this name as far as buf goes, or says why it can't be read.
@@ -56,31 +42,26 @@ fn read_named<R: io::Input + Files, E: Write>(
     err: &mut E,
     name: &[u8],
     buf: &mut [u8],
-) -> Input
-    ensures { Within 0 result buf.new }
+) -> io::Result<usize>
+    ensures { ReadsAtMost result buf.new }
 {
-    if !is_standard_input(name) {
-        return read_file(rt, err, b"review: ", name, buf);
+    if is_standard_input(name) {
+        read_input(rt, err, "review", buf)
+    } else {
+        read_file(rt, err, "review: ", name, buf)
     }
-    read_input(rt, err, buf)
 }
 
-fn outcome_of(number: u8, written: io::Result<()>) -> Outcome {
-    if let Err(error) = written {
-        return Outcome::Unwritten(error);
+fn outcome_of(number: u8) -> Outcome {
+    match number {
+        answers::VERIFIED => Outcome::Passes,
+        _ => Outcome::Other,
     }
-    if number == answers::VERIFIED {
-        return Outcome::Passes;
-    }
-    Outcome::Other
 }
 
 // There is stack enough to walk a request of this length, or it is said that there is not. Checking a derivation takes little.
 fn has_stack<R: Files, E: Write>(rt: &R, err: &mut E, name: &[u8], length: usize) -> bool {
-    if is_standard_input(name) {
-        return stack_is_enough(rt, err, b"review: ", b"standard input", length);
-    }
-    stack_is_enough(rt, err, b"review: ", name, length)
+    stack_is_enough(rt, err, "review: ", said_name(name), length)
 }
 
 // What is said of a walk's answer. It is never about a derivation, so that the request stands for one.
@@ -91,13 +72,11 @@ fn put_judged(
     state: &[u8; limits::FLUENTS],
     request: &[u8],
 ) -> io::Result<()> {
-    let number = answer.number;
-    put_name(rt, name)?;
-    put(rt, b": ")?;
-    put_words(&mut io::writer(rt), number)?;
-    put(rt, b"\n")?;
+    let words = InWords(answer.number);
+    rt.write_all(said_name(name))?;
+    println!(rt; ": {words}")?;
     put_numbers(rt, answer)?;
-    put_known(rt, number, state, request)?;
+    put_known(rt, answer.number, state, request)?;
     put_part(rt, answer, request, request)
 }
 
@@ -107,29 +86,14 @@ fn judge_request<R: Print + Files, E: Write>(
     name: &[u8],
     request: &[u8],
     budget: u32,
-) -> Outcome {
+) -> io::Result<Outcome> {
     if !has_stack(rt, err, name, request.len()) {
-        return Outcome::Unanswered;
+        return Ok(Outcome::Unanswered);
     }
     let mut state = [0u8; limits::FLUENTS];
-    let judged = judge(request, &mut state, budget);
-    let answer = judged.answer;
-    let written = put_judged(rt, name, answer, &state, request);
-    outcome_of(answer.number, written)
-}
-
-fn judge_file<R: Print + io::Input + Files, E: Write>(
-    rt: &R,
-    err: &mut E,
-    name: &[u8],
-    budget: u32,
-) -> Outcome {
-    // One byte more than a request may have: a longer one is refused whatever it holds.
-    let mut bytes = [0u8; REQUEST_ROOM];
-    match read_named(rt, err, name, &mut bytes) {
-        Input::Bytes(n) => judge_request(rt, err, name, &bytes[..n], budget),
-        Input::Unreadable(_) => Outcome::Unanswered,
-    }
+    let answer = judge(request, &mut state, budget).answer;
+    put_judged(rt, name, answer, &state, request)?;
+    Ok(outcome_of(answer.number))
 }
 
 // The request that argument i names.
@@ -138,44 +102,38 @@ fn judge_argument<R: Print + io::Input + Env + Files, E: Write>(
     err: &mut E,
     budget: u32,
     i: usize,
-) -> Outcome {
+) -> io::Result<Outcome> {
     let mut name = [0u8; NAME_ROOM];
     let n = name_at(rt, i, &mut name);
-    judge_file(rt, err, &name[..n], budget)
+    let name = &name[..n];
+    // One byte more than a request may have: a longer one is refused whatever it holds.
+    let mut bytes = [0u8; REQUEST_ROOM];
+    match read_named(rt, err, name, &mut bytes) {
+        Ok(n) => judge_request(rt, err, name, &bytes[..n], budget),
+        Err(_) => Ok(Outcome::Unanswered),
+    }
 }
 
 fn answer_to(whether: bool, request: &[u8], derivation: &[u8]) -> Answer {
     if whether {
-        return check_whether(request, derivation);
+        check_whether(request, derivation)
+    } else {
+        check(request, derivation)
     }
-    check(request, derivation)
 }
 
 fn put_checked(rt: &impl Print, number: u8) -> io::Result<()> {
-    if number == answers::VERIFIED {
-        return put(rt, b"accepted");
+    match number {
+        answers::VERIFIED => rt.println("accepted"),
+        _ => rt.println(InWords(number)),
     }
-    put_words(&mut io::writer(rt), number)
 }
 
 fn put_names(rt: &impl Print, request: &[u8], derivation: &[u8]) -> io::Result<()> {
-    put_name(rt, request)?;
-    put(rt, b" with ")?;
-    put_name(rt, derivation)?;
-    put(rt, b": ")
-}
-
-// What is said of the answer, behind the names.
-fn put_answer<'a>(
-    rt: &impl Print,
-    answer: Answer,
-    request: &'a [u8],
-    derivation: &'a [u8],
-) -> io::Result<()> {
-    put_checked(rt, answer.number)?;
-    put(rt, b"\n")?;
-    put_numbers(rt, answer)?;
-    put_part(rt, answer, request, derivation)
+    rt.write_all(said_name(request))?;
+    rt.print(" with ")?;
+    rt.write_all(said_name(derivation))?;
+    rt.print(": ")
 }
 
 // The answer, behind the names.
@@ -184,10 +142,12 @@ fn check_inputs<'a>(
     whether: bool,
     request: &'a [u8],
     derivation: &'a [u8],
-) -> Outcome {
+) -> io::Result<Outcome> {
     let answer = answer_to(whether, request, derivation);
-    let written = put_answer(rt, answer, request, derivation);
-    outcome_of(answer.number, written)
+    put_checked(rt, answer.number)?;
+    put_numbers(rt, answer)?;
+    put_part(rt, answer, request, derivation)?;
+    Ok(outcome_of(answer.number))
 }
 
 // Both files are read, so that each that can't be is told.
@@ -197,24 +157,17 @@ fn check_files<R: Print + io::Input + Files, E: Write>(
     whether: bool,
     request_name: &[u8],
     derivation_name: &[u8],
-) -> Outcome {
+) -> io::Result<Outcome> {
     // One byte more than an input may have.
     let mut request = [0u8; REQUEST_ROOM];
     let mut derivation = [0u8; DERIVATION_ROOM];
     let first = read_named(rt, err, request_name, &mut request);
     let second = read_named(rt, err, derivation_name, &mut derivation);
-    match first {
-        Input::Bytes(n) => match second {
-            Input::Bytes(m) => {
-                if let Err(error) = put_names(rt, request_name, derivation_name) {
-                    return Outcome::Unwritten(error);
-                }
-                check_inputs(rt, whether, &request[..n], &derivation[..m])
-            }
-            Input::Unreadable(_) => Outcome::Unanswered,
-        },
-        Input::Unreadable(_) => Outcome::Unanswered,
-    }
+    let (Ok(n), Ok(m)) = (first, second) else {
+        return Ok(Outcome::Unanswered);
+    };
+    put_names(rt, request_name, derivation_name)?;
+    check_inputs(rt, whether, &request[..n], &derivation[..m])
 }
 
 // The request that argument i names, and the derivation that argument j names.
@@ -224,7 +177,7 @@ fn check_arguments<R: Print + io::Input + Env + Files, E: Write>(
     whether: bool,
     i: usize,
     j: usize,
-) -> Outcome {
+) -> io::Result<Outcome> {
     let mut request = [0u8; NAME_ROOM];
     let n = name_at(rt, i, &mut request);
     let mut derivation = [0u8; NAME_ROOM];
@@ -232,14 +185,14 @@ fn check_arguments<R: Print + io::Input + Env + Files, E: Write>(
     check_files(rt, err, whether, &request[..n], &derivation[..m])
 }
 
-// The answer to the command, whose files are arguments i to j.
+// The answer to the command, whose files are arguments i to j. It fails where an answer can't be printed.
 pub fn outcome_at<R: Print + io::Input + Env + Files, E: Write>(
     rt: &R,
     err: &mut E,
     command: Command,
     i: usize,
     j: usize,
-) -> Outcome {
+) -> io::Result<Outcome> {
     match command {
         Command::Judge(budget) => judge_argument(rt, err, budget, i),
         Command::Check => check_arguments(rt, err, false, i, j),

@@ -1,7 +1,7 @@
 // What the program is asked by its arguments (FORMAT 12.30, 12.31), which the script has put in order: a command, for `judge` a budget, files.
 ghost use Rattle.std.specs.Prelude.{◌≡◌, ◌≤◌, length, take};
 
-use programs::{Asked, is_word, number_at, word_at};
+use programs::{is_word, number_at, word_at};
 use std::env::Env;
 
 // What is to be done with the files.
@@ -12,33 +12,20 @@ pub enum Command {
     CheckWhether,
 }
 
-#[derive(Clone, Copy)]
-pub enum Found {
-    Command(Command),
-    Nothing,
-}
-
 // The command that argument i is. The budget of `judge` is the argument after it.
-pub fn command_at(rt: &impl Env, i: usize) -> Found
+pub fn command_at(rt: &impl Env, i: usize) -> Option<Command>
     requires { i ≤ 2 }
 {
     if is_word(rt, i, b"check") {
-        return Found::Command(Command::Check);
+        return Some(Command::Check);
     }
     if is_word(rt, i, b"check-whether") {
-        return Found::Command(Command::CheckWhether);
+        return Some(Command::CheckWhether);
     }
     if is_word(rt, i, b"judge") {
-        return judge_within(rt, i + 1);
+        return number_at(rt, i + 1).map(Command::Judge);
     }
-    Found::Nothing
-}
-
-fn judge_within(rt: &impl Env, i: usize) -> Found {
-    match number_at(rt, i) {
-        Asked::Number(budget) => Found::Command(Command::Judge(budget)),
-        Asked::Nothing => Found::Nothing,
-    }
+    None
 }
 
 // The first file's argument, after a command that argument i is.
@@ -47,8 +34,7 @@ pub fn files_from(command: Command, i: usize) -> usize
 {
     match command {
         Command::Judge(_) => i + 2,
-        Command::Check => i + 1,
-        Command::CheckWhether => i + 1,
+        Command::Check | Command::CheckWhether => i + 1,
     }
 }
 
@@ -58,8 +44,7 @@ pub fn files_of(command: Command) -> usize
 {
     match command {
         Command::Judge(_) => 1,
-        Command::Check => 2,
-        Command::CheckWhether => 2,
+        Command::Check | Command::CheckWhether => 2,
     }
 }
 
@@ -68,8 +53,5 @@ pub fn name_at(rt: &impl Env, i: usize, buf: &mut [u8]) -> usize
     ensures in_bounds { result ≤ length buf.new }
     ensures counted { result ≡ length (take result buf.new) }
 {
-    match word_at(rt, i, buf) {
-        Ok(n) => n,
-        Err(_) => buf.len(),
-    }
+    word_at(rt, i, buf).unwrap_or(buf.len())
 }

@@ -9,98 +9,86 @@ mod printing;
 ghost use Rattle.std.specs.Prelude.{◌≤◌};
 
 use answering::{Outcome, outcome_at};
-use arguments::{Command, Found, command_at, files_from, files_of};
-use programs::{fail, is_word, put, put_number, word_count};
+use arguments::{Command, command_at, files_from, files_of};
+use programs::{fail, is_word, word_count};
 use std::env::Env;
-use std::io;
+use std::fmt::Display;
 use std::io::Write;
 use std::rt::Files;
+use std::{fmt, io};
 
-// What an outcome adds to those that pass.
-fn passing(outcome: Outcome) -> usize
-    ensures { result ≤ 1 }
-{
-    if let Outcome::Passes = outcome { 1 } else { 0 }
+// How many answers were asked for, how many of them pass, and how many there are not.
+#[derive(Clone, Copy)]
+struct Tally {
+    asked: usize,
+    passed: usize,
+    unanswered: usize,
 }
 
-// What an outcome adds to those without an answer.
-fn missing(outcome: Outcome) -> usize
-    ensures { result ≤ 1 }
-{
-    if let Outcome::Unanswered = outcome {
-        1
-    } else {
-        0
+// As a script is told it.
+impl Display for Tally {
+    fn fmt<W: fmt::Write>(&self, f: &mut fmt::Formatter<W>) -> fmt::Result {
+        let Tally {
+            asked,
+            passed,
+            unanswered,
+        } = *self;
+        write!(f, "{asked} {passed} {unanswered}")
     }
 }
 
 // The last line, where there is more than one answer.
-fn put_sum(rt: &impl Print, asked: usize, passed: usize, unanswered: usize) -> io::Result<()> {
+fn put_sum(rt: &impl Print, tally: Tally) -> io::Result<()> {
+    let Tally {
+        asked,
+        passed,
+        unanswered,
+    } = tally;
     if asked < 2 {
         return Ok(());
     }
-    put(rt, b"in all: ")?;
-    put_number(rt, passed as u64)?;
-    put(rt, b" of ")?;
-    put_number(rt, asked as u64)?;
-    put(rt, b" pass, ")?;
-    put_number(rt, unanswered as u64)?;
-    put(rt, b" without an answer\n")
+    println!(rt; "in all: {passed} of {asked} pass, {unanswered} without an answer")
 }
 
 // The sum, and where the script asks for it the tally that the exit status is made of.
-fn tell<R: Print + Files, E: Write>(
-    rt: &R,
-    err: &mut E,
-    tallied: bool,
-    asked: usize,
-    passed: usize,
-    unanswered: usize,
-) {
-    if let Err(error) = put_sum(rt, asked, passed, unanswered) {
-        fail(err, b"review: standard output", error);
-        return;
-    }
+fn tell<R: Print + Files>(rt: &R, tallied: bool, tally: Tally) -> io::Result<()> {
+    put_sum(rt, tally)?;
     if tallied {
-        let _ = programs::tell(rt, asked as u64, passed as u64, unanswered as u64);
+        let _ = programs::tell(rt, tally);
     }
+    Ok(())
 }
 
 // An answer for each file or two from argument `first` on, until one can't be printed.
 fn review_all<R: Print + io::Input + Env + Files, E: Write>(
     rt: &R,
     err: &mut E,
-    tallied: bool,
     command: Command,
     first: usize,
     count: usize,
-) {
+) -> io::Result<Tally> {
     let each = files_of(command);
-    let mut i = first;
-    let mut asked = 0;
-    let mut passed = 0;
-    let mut unanswered = 0;
-    while i < count {
-        if count - i < each {
-            break;
+    let mut tally = Tally {
+        asked: 0,
+        passed: 0,
+        unanswered: 0,
+    };
+    for i in (first..count).step_by(each) {
+        let outcome = outcome_at(rt, err, command, i, i + (each - 1))?;
+        tally.asked += 1;
+        match outcome {
+            Outcome::Passes => tally.passed += 1,
+            Outcome::Unanswered => tally.unanswered += 1,
+            Outcome::Other => {}
         }
-        let next = i + each;
-        let outcome = outcome_at(rt, err, command, i, next - 1);
-        if let Outcome::Unwritten(error) = outcome {
-            fail(err, b"review: standard output", error);
-            return;
-        }
-        asked += 1;
-        passed += passing(outcome);
-        unanswered += missing(outcome);
-        i = next;
     }
-    tell(rt, err, tallied, asked, passed, unanswered);
+    Ok(tally)
 }
 
 fn say_misused<E: Write>(err: &mut E) {
-    let _ = err.write_all(
-        b"review: judge BUDGET FILE..., check REQUEST DERIVATION... or check-whether REQUEST DERIVATION... is needed\n",
+    let _ = writeln!(
+        err,
+        "review: judge BUDGET FILE..., check REQUEST DERIVATION... or check-whether REQUEST DERIVATION... is needed"
     );
 }
 
@@ -113,16 +101,16 @@ fn review_files<R: Print + io::Input + Env + Files, E: Write>(
     first: usize,
 ) {
     let count = word_count(rt);
-    let each = files_of(command);
-    if count <= first {
+    if count <= first || (count - first) % files_of(command) != 0 {
         say_misused(err);
         return;
     }
-    if (count - first) % each != 0 {
-        say_misused(err);
-        return;
+    let told = review_all(rt, err, command, first, count).and_then(|tally| tell(
+        rt, tallied, tally,
+    ));
+    if let Err(error) = told {
+        fail(err, "review: standard output", error);
     }
-    review_all(rt, err, tallied, command, first, count);
 }
 
 // The command is argument i.
@@ -135,10 +123,8 @@ fn review_from<R: Print + io::Input + Env + Files, E: Write>(
     requires { i ≤ 2 }
 {
     match command_at(rt, i) {
-        Found::Command(command) => {
-            review_files(rt, err, tallied, command, files_from(command, i))
-        }
-        Found::Nothing => say_misused(err),
+        Some(command) => review_files(rt, err, tallied, command, files_from(command, i)),
+        None => say_misused(err),
     }
 }
 
@@ -146,7 +132,7 @@ fn main(rt: HostRuntime) {
     let mut err = rt.stderr();
     if is_word(&rt, 1, b"--tally") {
         review_from(&rt, &mut err, true, 2);
-        return;
+    } else {
+        review_from(&rt, &mut err, false, 1);
     }
-    review_from(&rt, &mut err, false, 1);
 }

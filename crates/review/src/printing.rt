@@ -2,7 +2,7 @@
 use glintstring::showing::show;
 use meaning::Answer;
 use parsing::limits;
-use programs::{put, put_number, put_state};
+use programs::put_state;
 use std::io;
 use std::io::ErrorKind;
 use verdicts::answers;
@@ -11,13 +11,13 @@ use verdicts::answers;
 const SHOWN: usize = 16;
 
 pub fn put_numbers(rt: &impl Print, answer: Answer) -> io::Result<()> {
-    put(rt, b"  number ")?;
-    put_number(rt, answer.number as u64)?;
-    put(rt, b", place ")?;
-    put_number(rt, answer.place as u64)?;
-    put(rt, b", count ")?;
-    put_number(rt, answer.count as u64)?;
-    put(rt, b"\n")
+    let Answer {
+        number,
+        place,
+        count,
+        ..
+    } = answer;
+    println!(rt; "  number {number}, place {place}, count {count}")
 }
 
 // The state, for answers 1 and 2. The first byte of a request that gets one of these is its fluent count.
@@ -27,12 +27,12 @@ pub fn put_known(
     state: &[u8; limits::FLUENTS],
     request: &[u8],
 ) -> io::Result<()> {
-    if number == answers::GOAL_MISSED || number == answers::NOT_EXECUTABLE {
-        if request.len() == 0 {
+    if let answers::GOAL_MISSED | answers::NOT_EXECUTABLE = number {
+        let Some(fluents) = request.first() else {
             return Err(io::Error::from(ErrorKind::InvalidData));
-        }
-        put(rt, b"  state ")?;
-        return put_state(rt, state, request[0]);
+        };
+        rt.print("  state ")?;
+        put_state(rt, state, *fluents)?;
     }
     Ok(())
 }
@@ -44,43 +44,27 @@ pub fn put_part<'a>(
     request: &'a [u8],
     derivation: &'a [u8],
 ) -> io::Result<()> {
-    let input = answer.input;
+    let input = match answer.input {
+        answers::NEITHER_INPUT => return Ok(()),
+        answers::THE_DERIVATION => "derivation",
+        _ => "request",
+    };
     let place = answer.place;
-    if input == answers::NEITHER_INPUT {
-        return Ok(());
-    }
-    let part = show(answer, request, derivation);
-    put_input(rt, input)?;
-    put(rt, b" from ")?;
-    put_number(rt, place as u64)?;
-    put(rt, b":")?;
-    put_bytes(rt, part)?;
-    put(rt, b"\n")
-}
-
-fn put_input(rt: &impl Print, input: u8) -> io::Result<()> {
-    if input == answers::THE_DERIVATION {
-        return put(rt, b"  derivation");
-    }
-    put(rt, b"  request")
+    print!(rt; "  {input} from {place}:")?;
+    put_bytes(rt, show(answer, request, derivation))?;
+    println!(rt)
 }
 
 fn put_bytes(rt: &impl Print, part: &[u8]) -> io::Result<()> {
-    if part.len() == 0 {
-        return put(rt, b" it ends there");
+    if part.is_empty() {
+        return rt.print(" it ends there");
     }
-    let mut i = 0;
-    while i < part.len() {
-        if i == SHOWN {
-            return put(rt, b" ...");
-        }
-        put_byte(rt, part[i])?;
-        i += 1;
+    let shown = &part[..part.len().min(SHOWN)];
+    for byte in shown {
+        print!(rt; " {byte}")?;
+    }
+    if shown.len() < part.len() {
+        rt.print(" ...")?;
     }
     Ok(())
-}
-
-fn put_byte(rt: &impl Print, byte: u8) -> io::Result<()> {
-    put(rt, b" ")?;
-    put_number(rt, byte as u64)
 }

@@ -18,7 +18,7 @@ use Rattle.meaning.specs.Tests.{both, each_of}
 use Rattle.meaning.specs.Limits.{format}
 use Rattle.meaning.specs.Requests.{Table, Sequence, done, item, act}
 use Rattle.meaning.specs.Lines.{sensing}
-use Rattle.meaning.specs.States.{State, told, state_of, can_be_run, unknown_sensed, readings}
+use Rattle.meaning.specs.States.{State, state_of, can_be_run, unknown_sensed, readings}
 use Rattle.meaning.specs.Derivations.{Conclusion, knows, Line, same_list, same_plan, literals_of, same_conclusion, says, states_of, each_reads, reads, senses_first, rule_3, cited_by}
 use Rattle.meaning.proofs.TestLaws.{by-test, both_left, both_right, pick_true, pick_false}
 use Rattle.meaning.proofs.ReadingsExact.{count_settled}
@@ -33,8 +33,9 @@ use Rattle.steps.specs.Small.{Small}
 use Rattle.steps.specs.Steps.{unknown_above, first_of}
 use Rattle.steps.proofs.LookLaws.{first_marked, second_marked, told_true, told_false, unknown_after_set, unknown_first, unknown_first_above, unknown_no_first, sensed_first, sensed_no_first}
 use Rattle.steps.proofs.ToldMarks.{marked_as}
-use Rattle.ruling.specs.declared.readings.Used.{Used}
-use Rattle.ruling.specs.declared.readings.Used.TheVariants.{To, Fails}
+use Rattle.std.specs.Prelude.{Option, Some, None}
+use Rattle.std.specs.Option.{option_eq}
+use Rattle.std.specs.Bool.{then_some}
 use Rattle.comparing.specs.declared.spots.Spot.{Spot}
 use Rattle.comparing.specs.Coded.{coded}
 use Rattle.comparing.specs.Stands.{PlanStands, NumbersStand, Stands, spot_at, LinesStand}
@@ -146,7 +147,7 @@ line_at_number lines other (x ∷ cites) zero less = refl
 line_at_number lines other (x ∷ cites) (suc k) less = line_at_number lines other cites k (omega (arith, less))
 
 module _ (layout : Layout) (d places : List ℕ) (w : Spot) (count : ℕ) (counts : count ≡ get_or d w.cites 0) (k : ℕ) where
-  pub none_left : (marks : State) → count ≤ k → Uses layout d places w (marks ∷ []) k Fails
+  pub none_left : (marks : State) → count ≤ k → Uses layout d places w (marks ∷ []) k None
   unfolding used reads_at
   none_left marks far =
       record {
@@ -214,13 +215,16 @@ module _ (layout : Layout) (d places : List ℕ) (w : Spot) (count : ℕ) (count
           says_so.holds (get_or (lines_at lines other cites) k other) rest Y (rw placed (cited_stands lines rest Y cites z other)) z.follows
           ∙ sym (yes_left _ _ (cited_near lines rest Y cites z other))
 
-      pub reading_said : said ≡ true → Uses layout d places w (marks ∷ []) k (To (k + 1))
+      pub reading_told : (r : Option ℕ) → r ≡ then_some said (k + 1) → Uses layout d places w (marks ∷ []) k r
       unfolding used
-      reading_said t = record { holds = λ lines rest Y cites other z. sym (pick_true _ _ _ (sym (said_is lines rest Y cites other z) ∙ t)) }
-
-      pub reading_unsaid : said ≡ false → Uses layout d places w (marks ∷ []) k Fails
-      unfolding used
-      reading_unsaid f = record { holds = λ lines rest Y cites other z. sym (pick_false _ _ _ (sym (said_is lines rest Y cites other z) ∙ f)) }
+      reading_told r is =
+          record {
+            holds = λ lines rest Y cites other z.
+                is
+                ∙ by-test said
+                (λ t. rw t (sym (pick_true _ _ _ (sym (said_is lines rest Y cites other z) ∙ t))))
+                (λ f. rw f (sym (pick_false _ _ _ (sym (said_is lines rest Y cites other z) ∙ f))));
+          }
 
 -- LINE i, at the spot w.
 module _ (layout : Layout) (d places : List ℕ) (total i : ℕ) (given : SomeRest layout d places total (slot_spot layout d places i)) where
@@ -253,12 +257,12 @@ module _ (layout : Layout) (d places : List ℕ) (total i : ℕ) (given : SomeRe
     number_line count counts k less number read v there =
         line_there number (number_below layout d places w count counts k less number read total i given placed) v there
 
-    pub said_of : (states : List State) (k : ℕ) (answer : Used) → Uses layout d places w states k answer → Uses layout d places (slot_spot layout d places i) states k answer
+    pub said_of : (states : List State) (k : ℕ) (answer : Option ℕ) → Uses layout d places w states k answer → Uses layout d places (slot_spot layout d places i) states k answer
     said_of states k answer uses = subst (λ (z : Spot). Uses layout d places z states k answer) placed uses
 
 -- STATES ONE AFTER THE OTHER.
-abbrev on : Used → (ℕ → Used) → Used
-on r then = elim r [ To j ↦ then j | Fails ↦ Fails ]
+abbrev on : Option ℕ → (ℕ → Option ℕ) → Option ℕ
+on r then = elim r [ Some j ↦ then j | None ↦ None ]
 
 module _ (rest : Sequence ℕ) (Y : Conclusion) (cited : List Line) (other : Line) where
   used_then : (xs ys : List State) (k : ℕ) → used rest Y cited other (xs ++ ys) k ≡ on (used rest Y cited other xs k) (used rest Y cited other ys)
@@ -266,8 +270,8 @@ module _ (rest : Sequence ℕ) (Y : Conclusion) (cited : List Line) (other : Lin
   used_then [] ys k = refl
   used_then (x ∷ xs) ys k =
       by-test (reads_at rest Y cited other x k)
-      (λ t. pick_true _ _ _ t ∙ used_then xs ys (k + 1) ∙ ap (λ (u : Used). on u (used rest Y cited other ys)) (sym (pick_true _ _ _ t)))
-      (λ f. pick_false _ _ _ f ∙ ap (λ (u : Used). on u (used rest Y cited other ys)) (sym (pick_false _ _ _ f)))
+      (λ t. pick_true _ _ _ t ∙ used_then xs ys (k + 1) ∙ ap (λ (u : Option ℕ). on u (used rest Y cited other ys)) (sym (pick_true _ _ _ t)))
+      (λ f. pick_false _ _ _ f ∙ ap (λ (u : Option ℕ). on u (used rest Y cited other ys)) (sym (pick_false _ _ _ f)))
 
 -- THE FIRST UNKNOWN FLUENT f, with the next one g.
 module _ (t : Table) (a : ℕ) (marks : State) (marked : Marked marks) (f : ℕ) where
@@ -301,18 +305,18 @@ module _ (t : Table) (a : ℕ) (marks : State) (marked : Marked marks) (f : ℕ)
           | no far ↦ omega (arith, far, small, is)
         ]
 
-    module _ (layout : Layout) (d places : List ℕ) (v : Spot) (k : ℕ) (answer : Used) (first : Uses layout d places v (states_from t a (set marks f 1) g) k answer) where
-      pub first_fails : answer ≡ Fails → Uses layout d places v (states_from t a marks f) k Fails
+    module _ (layout : Layout) (d places : List ℕ) (v : Spot) (k : ℕ) (answer : Option ℕ) (first : Uses layout d places v (states_from t a (set marks f 1) g) k answer) where
+      pub first_fails : answer ≡ None → Uses layout d places v (states_from t a marks f) k None
       first_fails is =
           record {
             holds = λ lines rest Y cites other w.
                 let cited = lines_at lines other cites in
                 sym (ap (λ (ss : List State). used rest Y cited other ss k) states_split
                 ∙ used_then rest Y cited other (states_from t a (set marks f 1) g) (states_from t a (set (set marks f 1) f 2) g) k
-                ∙ ap (λ (u : Used). on u (used rest Y cited other (states_from t a (set (set marks f 1) f 2) g))) (sym (first.holds lines rest Y cites other w) ∙ is));
+                ∙ ap (λ (u : Option ℕ). on u (used rest Y cited other (states_from t a (set (set marks f 1) f 2) g))) (sym (first.holds lines rest Y cites other w) ∙ is));
           }
 
-      pub both_read : (j : ℕ) → answer ≡ To j → (last : Used) → Uses layout d places v (states_from t a (set (set marks f 1) f 2) g) j last → Uses layout d places v (states_from t a marks f) k last
+      pub both_read : (j : ℕ) → answer ≡ Some j → (last : Option ℕ) → Uses layout d places v (states_from t a (set (set marks f 1) f 2) g) j last → Uses layout d places v (states_from t a marks f) k last
       both_read j is last second =
           record {
             holds = λ lines rest Y cites other w.
@@ -320,19 +324,19 @@ module _ (t : Table) (a : ℕ) (marks : State) (marked : Marked marks) (f : ℕ)
                 second.holds lines rest Y cites other w
                 ∙ sym (ap (λ (ss : List State). used rest Y cited other ss k) states_split
                 ∙ used_then rest Y cited other (states_from t a (set marks f 1) g) (states_from t a (set (set marks f 1) f 2) g) k
-                ∙ ap (λ (u : Used). on u (used rest Y cited other (states_from t a (set (set marks f 1) f 2) g))) (sym (first.holds lines rest Y cites other w) ∙ is));
+                ∙ ap (λ (u : Option ℕ). on u (used rest Y cited other (states_from t a (set (set marks f 1) f 2) g))) (sym (first.holds lines rest Y cites other w) ∙ is));
           }
 
 -- There is none.
-pub read_whole : (t : Table) (a : ℕ) (marks : State) (f : ℕ) → format.fluents ≤ f → (layout : Layout) (d places : List ℕ) (v : Spot) (k : ℕ) (answer : Used)
+pub read_whole : (t : Table) (a : ℕ) (marks : State) (f : ℕ) → format.fluents ≤ f → (layout : Layout) (d places : List ℕ) (v : Spot) (k : ℕ) (answer : Option ℕ)
     → Uses layout d places v (marks ∷ []) k answer → Uses layout d places v (states_from t a marks f) k answer
 unfolding states_from fluents_from readings states_of
 read_whole t a marks f far layout d places v k answer uses =
     subst (λ (fs : List ℕ). Uses layout d places v (states_of (readings fs marks)) k answer) (sym (pick_false _ _ _ (le-ltb f format.fluents far))) uses
 
 -- USED UP: each line says its reading exactly where the citations used are all.
-abbrev all_used : ℕ → Used → Bool
-all_used n u = elim u [ To j ↦ eqb j n | Fails ↦ false ]
+abbrev all_used : ℕ → Option ℕ → Bool
+all_used n u = option_eq eqb u (Some n)
 
 module _ (rest : Sequence ℕ) (Y : Conclusion) where
   module _ (cited : List Line) (other : Line) where
@@ -365,9 +369,9 @@ module _ (rest : Sequence ℕ) (Y : Conclusion) where
               (λ f.
               ap (each_reads rest Y (s ∷ ss)) (line_next k less)
               ∙ sym (no_left _ _ f)
-              ∙ ap (all_used (length cited)) (sym (pick_false (reads_at rest Y cited other s k) (λ _. used rest Y cited other ss (k + 1)) (λ _. Fails) (reads_near s k less ∙ f))))
+              ∙ ap (all_used (length cited)) (sym (pick_false (reads_at rest Y cited other s k) (λ _. used rest Y cited other ss (k + 1)) (λ _. None) (reads_near s k less ∙ f))))
           | no far ↦ ap (each_reads rest Y (s ∷ ss)) (drop_of_length-le cited {i = k} (omega (arith, far)))
-              ∙ ap (all_used (length cited)) (sym (pick_false (reads_at rest Y cited other s k) (λ _. used rest Y cited other ss (k + 1)) (λ _. Fails) (reads_far s k (omega (arith, far)))))
+              ∙ ap (all_used (length cited)) (sym (pick_false (reads_at rest Y cited other s k) (λ _. used rest Y cited other ss (k + 1)) (λ _. None) (reads_far s k (omega (arith, far)))))
         ]
 
 -- The states by the first unknown fluent are all.
@@ -513,7 +517,7 @@ module _ (d : List ℕ) (w : Spot) (q count : ℕ) (after : q ≡ sequence_place
         cited_size : (cited : ℕ) → cited ≡ get_or d w.cites 0 → (l : Line) → Stands d w l → cited ≡ length l.cites
         cited_size cited size l v = size ∙ v.cited
 
-        module _ (a : ℕ) (byte : a ≡ get_or d (q + 2) 0) (t : Table) (senses : Bool) (tested : senses ≡ sensing t a) (marks : State) (held : marks ≡ state_of format (listed d w.line)) (runs : Bool) (asked : runs ≡ can_be_run t a marks) (yes : senses ≡ true) (can : runs ≡ true) (f : ℕ) (first : f ≡ first_of (unknown_sensed t a marks)) (cited : ℕ) (size : cited ≡ get_or d w.cites 0) (i : ℕ) (placed : w ≡ slot_spot layout d places i) (answer : Used) (told : Uses layout d places (slot_spot layout d places i) (states_from t a marks f) 0 answer) where
+        module _ (a : ℕ) (byte : a ≡ get_or d (q + 2) 0) (t : Table) (senses : Bool) (tested : senses ≡ sensing t a) (marks : State) (held : marks ≡ state_of format (listed d w.line)) (runs : Bool) (asked : runs ≡ can_be_run t a marks) (yes : senses ≡ true) (can : runs ≡ true) (f : ℕ) (first : f ≡ first_of (unknown_sensed t a marks)) (cited : ℕ) (size : cited ≡ get_or d w.cites 0) (i : ℕ) (placed : w ≡ slot_spot layout d places i) (answer : Option ℕ) (told : Uses layout d places (slot_spot layout d places i) (states_from t a marks f) 0 answer) where
           uses : Uses layout d places w (states_from t a marks f) 0 answer
           uses = subst (λ (z : Spot). Uses layout d places z (states_from t a marks f) 0 answer) (sym placed) told
 
@@ -532,8 +536,5 @@ module _ (d : List ℕ) (w : Spot) (q count : ℕ) (after : q ≡ sequence_place
               ∙ each_used rest l.Y lines-cited l states 0 (omega arith)
               ∙ ap₂ {C = Bool} all_used long (sym same)
 
-          pub all_read : (k : ℕ) → answer ≡ To k → RuledByAll layout d places w (rule_3 format t) (eqb k cited)
-          all_read k is = record { holds = λ lines l stand v below. sym (rule_used lines l stand v below ∙ ap (all_used cited) is) }
-
-          pub not_read : answer ≡ Fails → RuledByAll layout d places w (rule_3 format t) false
-          not_read is = record { holds = λ lines l stand v below. sym (rule_used lines l stand v below ∙ ap (all_used cited) is) }
+          pub all_read : (r : Bool) → r ≡ option_eq eqb answer (Some cited) → RuledByAll layout d places w (rule_3 format t) r
+          all_read r is = record { holds = λ lines l stand v below. is ∙ sym (rule_used lines l stand v below) }

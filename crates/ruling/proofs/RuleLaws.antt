@@ -21,7 +21,6 @@ use Rattle.meaning.proofs.TestLaws.{by-test, clash, same_test, both_left, both_r
 use Rattle.reading.specs.Listed.{bytes_from, listed, ListHere}
 use Rattle.meaning.specs.declared.Form.TheVariants.{Flags}
 use Rattle.reading.specs.Planned.{bytes_of}
-use Rattle.reading.specs.Noted.{sensed}
 use Rattle.finding.specs.Branches.{sequence_place, no_item}
 use Rattle.finding.specs.PlansHeld.{own_items}
 use Rattle.finding.proofs.PlanHere.{count_zero}
@@ -261,6 +260,9 @@ module _ (d : List ℕ) (v : Spot) (from : v.fluent ≡ false) (some : SomeLine 
   pub literals_there : v.conclusion < length d
   literals_there = let ends = (YHere d v from some).ends in omega (arith, ends)
 
+  pub first_there : get_or d v.conclusion 0 ≡ 1 → v.conclusion + 1 < length d
+  first_there one = let ends = (YHere d v from some).ends in omega (arith, ends, one)
+
   pub literal_fits : Fits w64 (v.conclusion + 1)
   literal_fits = let there = literals_there in let long = some.long in record { fits = omega (arith, there, long) }
 
@@ -286,37 +288,36 @@ module _ (d : List ℕ) (v w : Spot) where
   unfolding rule_8
   settled_elsewhere starts first e = record { holds = λ c l sc sl. no_left (same_list c.X l.X) _ (sym (XSame d v w starts first c l sc sl) ∙ e) }
 
-  -- The cited list against the fluent f.
-  module _ (from : v.fluent ≡ false) (to : w.fluent ≡ true) (f literals : ℕ) (told : f ≡ get_or d w.conclusion 0) (counted : literals ≡ get_or d v.conclusion 0) where
-    settles_is : (c l : Line) → Stands d v c → Stands d w l → settles c.Y l.Y ≡ one_literal f (bytes_from d (v.conclusion + 1) literals)
+  -- The cited list against the fluent.
+  module _ (from : v.fluent ≡ false) (to : w.fluent ≡ true) where
+    settles_is : (c l : Line) → Stands d v c → Stands d w l → settles c.Y l.Y ≡ one_literal (get_or d w.conclusion 0) (bytes_from d (v.conclusion + 1) (get_or d v.conclusion 0))
     unfolding settles listed
-    settles_is c l sc sl = ap₂ {C = Bool} settles (YLists d v from c sc).is (YTells d w to l sl).is ∙ rw (told, counted)
+    settles_is c l sc sl = ap₂ {C = Bool} settles (YLists d v from c sc).is (YTells d w to l sl).is
 
-    pub not_one_literal : (literals ≡ 1 → ⊥) → RuledBy d v w rule_8 false
-    not_one_literal other = not_settled (λ c l sc sl. settles_is c l sc sl ∙ literals_other d f (v.conclusion + 1) literals other)
+    pub not_one_literal : (get_or d v.conclusion 0 ≡ 1 → ⊥) → RuledBy d v w rule_8 false
+    not_one_literal other = not_settled (λ c l sc sl. settles_is c l sc sl ∙ literals_other d (get_or d w.conclusion 0) (v.conclusion + 1) (get_or d v.conclusion 0) other)
 
-    module _ (literal : ℕ) (byte : literal ≡ get_or d (v.conclusion + 1) 0) where
-      pub other_fluent : (literal / 2 ≡ f → ⊥) → RuledBy d v w rule_8 false
-      other_fluent other = not_settled (λ c l sc sl. settles_is c l sc sl ∙ literal_other d f (v.conclusion + 1) literals (subst (λ (k : ℕ). k / 2 ≡ f → ⊥) byte other))
+    pub other_fluent : (get_or d (v.conclusion + 1) 0 / 2 ≡ get_or d w.conclusion 0 → ⊥) → RuledBy d v w rule_8 false
+    other_fluent other = not_settled (λ c l sc sl. settles_is c l sc sl ∙ literal_other d (get_or d w.conclusion 0) (v.conclusion + 1) (get_or d v.conclusion 0) other)
 
-      module _ (one : literals ≡ 1) (same_fluent : literal / 2 ≡ f) where
-        settles_so : (c l : Line) → Stands d v c → Stands d w l → settles c.Y l.Y ≡ true
-        settles_so c l sc sl =
-            settles_is c l sc sl
-            ∙ ap (λ (k : ℕ). one_literal f (bytes_from d (v.conclusion + 1) k)) one
-            ∙ literal_one d f (v.conclusion + 1)
-            ∙ eq-eqb _ _ (ap (λ (k : ℕ). k / 2) (sym byte) ∙ same_fluent)
+    module _ (one : get_or d v.conclusion 0 ≡ 1) (same_fluent : get_or d (v.conclusion + 1) 0 / 2 ≡ get_or d w.conclusion 0) where
+      settles_so : (c l : Line) → Stands d v c → Stands d w l → settles c.Y l.Y ≡ true
+      settles_so c l sc sl =
+          settles_is c l sc sl
+          ∙ ap (λ (k : ℕ). one_literal (get_or d w.conclusion 0) (bytes_from d (v.conclusion + 1) k)) one
+          ∙ literal_one d (get_or d w.conclusion 0) (v.conclusion + 1)
+          ∙ eq-eqb _ _ same_fluent
 
-        pub settled : (starts : Bool) → starts ≡ same_list (listed d v.line) (listed d w.line) → starts ≡ true
-            → (r q : ℕ) → r ≡ sequence_place Flags d v.line → q ≡ sequence_place Flags d w.line → (same : Bool) → SamePlans d r v.end d q w.end same → RuledBy d v w rule_8 same
-        unfolding rule_8
-        settled starts first t r q given after same second =
-            record {
-              holds = λ c l sc sl.
-                  plans_are d v w r q given after same second c l sc sl
-                  ∙ sym (yes_right (same_plan c.c l.c) (settles c.Y l.Y) (settles_so c l sc sl))
-                  ∙ sym (yes_left (same_list c.X l.X) _ (sym (XSame d v w starts first c l sc sl) ∙ t));
-            }
+      pub settled : (starts : Bool) → starts ≡ same_list (listed d v.line) (listed d w.line) → starts ≡ true
+          → (r q : ℕ) → r ≡ sequence_place Flags d v.line → q ≡ sequence_place Flags d w.line → (same : Bool) → SamePlans d r v.end d q w.end same → RuledBy d v w rule_8 same
+      unfolding rule_8
+      settled starts first t r q given after same second =
+          record {
+            holds = λ c l sc sl.
+                plans_are d v w r q given after same second c l sc sl
+                ∙ sym (yes_right (same_plan c.c l.c) (settles c.Y l.Y) (settles_so c l sc sl))
+                ∙ sym (yes_left (same_list c.X l.X) _ (sym (XSame d v w starts first c l sc sl) ∙ t));
+          }
 
 -- RULES 5 and 11.
 plan_either_way : (b c : Sequence ℕ) → Tellable b → Tellable c → same_plan b c ≡ same_plan c b

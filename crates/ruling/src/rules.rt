@@ -26,14 +26,8 @@ pub fn rule_1(d: &[u8], l: Spot) -> bool
     if l.fluent {
         return false;
     }
-    let p = l.line;
-    let y = l.conclusion;
-    let plan = sequence_of(Form::Flags, d, p);
-    let none = empty(d, plan);
-    if none {
-        return same_lists(d, y, d, p);
-    }
-    false
+    let plan = sequence_of(Form::Flags, d, l.line);
+    empty(d, plan) && same_lists(d, l.conclusion, d, l.line)
 }
 
 // Rule 2: one action without knowledge lines that can be run in X, and Y is the state after it.
@@ -45,29 +39,16 @@ pub fn rule_2(s: &[u8], t: &Notes, d: &[u8], l: Spot) -> bool
     if l.fluent {
         return false;
     }
-    let p = l.line;
-    let y = l.conclusion;
-    let plan = sequence_of(Form::Flags, d, p);
-    let count = count_of(d, plan);
-    if count != 1 {
+    let plan = sequence_of(Form::Flags, d, l.line);
+    if count_of(d, plan) != 1 || d[plan + 2] == limits::BRANCHING_BYTE {
         return false;
     }
-    let first = plan + 2;
-    if d[first] == limits::BRANCHING_BYTE {
+    let a = wide(d[plan + 2]);
+    if is_sensing(Form::Flags, s, t, a) {
         return false;
     }
-    let a = wide(d[first]);
-    let sensing = is_sensing(Form::Flags, s, t, a);
-    if sensing {
-        return false;
-    }
-    let marks = state_of(d, p);
-    let runs = can_be_run(s, t, a, &marks);
-    if runs {
-        let after = state_after(s, t, a, &marks);
-        return lists_known(&after, d, y);
-    }
-    false
+    let marks = state_of(d, l.line);
+    can_be_run(s, t, a, &marks) && lists_known(&state_after(s, t, a, &marks), d, l.conclusion)
 }
 
 // Rules 5 and 11: X c' Z by the line `one` and then Z c'' by the line `two`, with the conclusion of the line itself.
@@ -77,36 +58,29 @@ pub fn rule_5(d: &[u8], one: Spot, two: Spot, l: Spot) -> bool
     requires some_line_3 { SomeLine d.now l }
     ensures { RuledByTwo d.now one two l rule_5 result }
 {
-    if one.fluent {
+    if one.fluent
+        || !same_lists(d, one.line, d, l.line)
+        || !same_lists(d, one.conclusion, d, two.line)
+        || !same_conclusions(d, two, l)
+    {
         return false;
     }
-    let p = l.line;
-    let p1 = one.line;
-    let p2 = two.line;
-    let y1 = one.conclusion;
-    let starts = same_lists(d, p1, d, p);
-    if starts {
-        let meets = same_lists(d, y1, d, p2);
-        if meets {
-            let ends = same_conclusions(d, two, l);
-            if ends {
-                let plan = sequence_of(Form::Flags, d, p);
-                let first = sequence_of(Form::Flags, d, p1);
-                let second = sequence_of(Form::Flags, d, p2);
-                let count = count_of(d, first);
-                let more = count_of(d, second);
-                let a = first + 2;
-                let g = second + 2;
-                let e = l.end;
-                let b = one.end;
-                let h = two.end;
-                return joined_plans(d, plan, e, a, b, count, g, h, more);
-            }
-            return false;
-        }
-        return false;
-    }
-    false
+    let plan = sequence_of(Form::Flags, d, l.line);
+    let first = sequence_of(Form::Flags, d, one.line);
+    let second = sequence_of(Form::Flags, d, two.line);
+    let count = count_of(d, first);
+    let more = count_of(d, second);
+    joined_plans(
+        d,
+        plan,
+        l.end,
+        first + 2,
+        one.end,
+        count,
+        second + 2,
+        two.end,
+        more,
+    )
 }
 
 // Rule 6: X' c Y' by the line `cited`, with X' within X and Y within Y'.
@@ -115,29 +89,12 @@ pub fn rule_6(d: &[u8], cited: Spot, l: Spot) -> bool
     requires some_line_2 { SomeLine d.now l }
     ensures { RuledBy d.now cited l rule_6 result }
 {
-    if cited.fluent {
+    if cited.fluent || l.fluent || !within(d, cited.line, d, l.line) {
         return false;
     }
-    if l.fluent {
-        return false;
-    }
-    let pc = cited.line;
-    let p = l.line;
-    let starts = within(d, pc, d, p);
-    if starts {
-        let given = sequence_of(Form::Flags, d, pc);
-        let plan = sequence_of(Form::Flags, d, p);
-        let f = cited.end;
-        let e = l.end;
-        let same = same_plans(d, given, f, d, plan, e);
-        if same {
-            let y = l.conclusion;
-            let yc = cited.conclusion;
-            return within(d, y, d, yc);
-        }
-        return false;
-    }
-    false
+    let given = sequence_of(Form::Flags, d, cited.line);
+    let plan = sequence_of(Form::Flags, d, l.line);
+    same_plans(d, given, cited.end, d, plan, l.end) && within(d, l.conclusion, d, cited.conclusion)
 }
 
 // Rule 7: one action that can be run in X and has a knowledge line for the fluent.
@@ -146,28 +103,15 @@ pub fn rule_7(s: &[u8], t: &Notes, d: &[u8], l: Spot) -> bool
     requires some_line { SomeLine d.now l }
     ensures { Ruled d.now l (rule_7 format (table_in Flags s.now)) result }
 {
-    if l.fluent {
-        let p = l.line;
-        let y = l.conclusion;
-        let plan = sequence_of(Form::Flags, d, p);
-        let count = count_of(d, plan);
-        if count != 1 {
-            return false;
-        }
-        let first = plan + 2;
-        if d[first] == limits::BRANCHING_BYTE {
-            return false;
-        }
-        let a = wide(d[first]);
-        let f = wide(d[y]);
-        let looks = looks_at(s, t, a, f);
-        if looks {
-            let marks = state_of(d, p);
-            return can_be_run(s, t, a, &marks);
-        }
+    if !l.fluent {
         return false;
     }
-    false
+    let plan = sequence_of(Form::Flags, d, l.line);
+    if count_of(d, plan) != 1 || d[plan + 2] == limits::BRANCHING_BYTE {
+        return false;
+    }
+    let a = wide(d[plan + 2]);
+    looks_at(s, t, a, wide(d[l.conclusion])) && can_be_run(s, t, a, &state_of(d, l.line))
 }
 
 // Rule 8: X c by the line `cited`, with a list of one literal of the fluent.
@@ -176,33 +120,15 @@ pub fn rule_8(d: &[u8], cited: Spot, l: Spot) -> bool
     requires some_line_2 { SomeLine d.now l }
     ensures { RuledBy d.now cited l rule_8 result }
 {
-    if cited.fluent {
+    if cited.fluent
+        || !l.fluent
+        || d[cited.conclusion] != 1
+        || d[cited.conclusion + 1] / 2 != d[l.conclusion]
+        || !same_lists(d, cited.line, d, l.line)
+    {
         return false;
     }
-    if l.fluent {
-        let y = l.conclusion;
-        let yc = cited.conclusion;
-        let f = wide(d[y]);
-        let literals = wide(d[yc]);
-        if literals != 1 {
-            return false;
-        }
-        let first = yc + 1;
-        let literal = wide(d[first]);
-        if literal / 2 != f {
-            return false;
-        }
-        let pc = cited.line;
-        let p = l.line;
-        let starts = same_lists(d, pc, d, p);
-        if starts {
-            let given = sequence_of(Form::Flags, d, pc);
-            let plan = sequence_of(Form::Flags, d, p);
-            let g = cited.end;
-            let e = l.end;
-            return same_plans(d, given, g, d, plan, e);
-        }
-        return false;
-    }
-    false
+    let given = sequence_of(Form::Flags, d, cited.line);
+    let plan = sequence_of(Form::Flags, d, l.line);
+    same_plans(d, given, cited.end, d, plan, l.end)
 }

@@ -11,13 +11,12 @@ ghost use Rattle.reading.specs.Planned.{items_of};
 ghost use Rattle.steps.specs.Held.{table_in, plan_in, request_in};
 ghost use Rattle.steps.specs.AtHand.{AtHand, Marked};
 ghost use Rattle.steps.specs.Rests.{Position, rest_at};
-ghost use Rattle.writing.specs.Progress.{line_count, Underway, Cited};
+ghost use Rattle.writing.specs.Progress.{Underway};
 ghost use Rattle.schemes.specs.Narrow.{NarrowFrom, lines_at, fluents_from, NarrowReadings, readings_at, Acts};
-ghost use Rattle.schemes.specs.Put.{CitesMore, Put, ReadingsPut};
+ghost use Rattle.schemes.specs.Put.{Put, ReadingsPut};
 ghost use Rattle.schemes.specs.Sizes.{Lined, Measured};
 ghost use Rattle.meaning.specs.declared.Form.TheVariants.{Flags};
 
-use finding::places::Found;
 use meaning::Form;
 use parsing::bytes::wide;
 use parsing::limits;
@@ -27,23 +26,10 @@ use reading::notes::{Notes, get};
 use steps::actions::state_after;
 use steps::onward::{chosen, follow, start_of};
 use steps::sensing::{first_unknown, is_sensing, next_unknown};
-use writing::lines::{
-    CITE_SLOTS, Cites, PROGRESS_SLOTS, Progress, number_of, put_action, put_empty, put_goals,
-};
+use writing::cites::Cites;
+use writing::lines::{Progress, put_action, put_empty, put_goals};
 use writing::room::put_number;
 use writing::rule_bytes;
-
-// One more line is cited.
-fn cite(cites: &mut Cites, line: usize)
-    requires cited { Cited cites.old }
-    requires cites_bound { get_or cites.old 0 0 < format.citations }
-    requires line_bound { line < 65536 }
-    ensures { CitesMore line cites.old cites.new }
-{
-    let count = number_of(cites[0]) + 1;
-    cites[count] = line as u16;
-    cites[0] = count as u16;
-}
 
 // The line by a rule that cites the line before it.
 fn put_next(
@@ -59,12 +45,12 @@ fn put_next(
     requires position { Position (plan_in Flags s.now t.now) at }
     requires marked { Marked marks.now }
     requires underway { Underway progress.old }
-    requires progress_nonzero { 0 < line_count progress.old }
-    ensures { Put (line_of marks.now (rest_at (plan_in Flags s.now t.now) at) (goals_of (request_in Flags s.now t.now)) rule ((line_count progress.old - 1) ∷ []) ∷ []) progress.old room.old progress.new room.new }
+    requires progress_nonzero { 0 < progress.old.lines }
+    ensures { Put (line_of marks.now (rest_at (plan_in Flags s.now t.now) at) (goals_of (request_in Flags s.now t.now)) rule ((progress.old.lines - 1) ∷ []) ∷ []) progress.old room.old progress.new room.new }
 {
-    let mut cites = [0u16; CITE_SLOTS];
-    let previous = progress[0] - 1;
-    cite(&mut cites, previous);
+    let mut cites = Cites::none();
+    let previous = progress.lines - 1;
+    cites.push(previous);
     put_goals(s, t, at, marks, rule, &cites, room, progress);
 }
 
@@ -73,7 +59,7 @@ fn put_end(s: &[u8], t: &Notes, marks: &Marks, room: &mut [u8], progress: &mut P
     requires at_hand { AtHand Flags s.now t.now }
     requires marked { Marked marks.now }
     requires underway { Underway progress.old }
-    ensures { Put (lines_at s.now t.now format.items marks.now (line_count progress.old)) progress.old room.old progress.new room.new }
+    ensures { Put (lines_at s.now t.now format.items marks.now progress.old.lines) progress.old room.old progress.new room.new }
 {
     put_empty(marks, room, progress);
     put_next(
@@ -102,13 +88,13 @@ fn put_composed(
     requires marked { Marked marks.now }
     requires first_bound { first < 65536 }
     requires underway { Underway progress.old }
-    requires progress_nonzero { 0 < line_count progress.old }
-    ensures { Put (line_of marks.now (rest_at (plan_in Flags s.now t.now) at) (goals_of (request_in Flags s.now t.now)) Limits.composition_rule (first ∷ (line_count progress.old - 1) ∷ []) ∷ []) progress.old room.old progress.new room.new }
+    requires progress_nonzero { 0 < progress.old.lines }
+    ensures { Put (line_of marks.now (rest_at (plan_in Flags s.now t.now) at) (goals_of (request_in Flags s.now t.now)) Limits.composition_rule (first ∷ (progress.old.lines - 1) ∷ []) ∷ []) progress.old room.old progress.new room.new }
 {
-    let mut cites = [0u16; CITE_SLOTS];
-    let last = progress[0] - 1;
-    cite(&mut cites, first);
-    cite(&mut cites, last);
+    let mut cites = Cites::none();
+    let last = progress.lines - 1;
+    cites.push(first);
+    cites.push(last);
     put_goals(
         s,
         t,
@@ -129,25 +115,23 @@ fn put_from(s: &[u8], t: &Notes, at: usize, marks: &Marks, room: &mut [u8], prog
     requires marked { Marked marks.now }
     requires narrow_from { NarrowFrom s.now t.now at marks.now }
     requires underway { Underway progress.old }
-    ensures { Put (lines_at s.now t.now at marks.now (line_count progress.old)) progress.old room.old progress.new room.new }
+    ensures { Put (lines_at s.now t.now at marks.now progress.old.lines) progress.old room.old progress.new room.new }
 {
-    if limits::LINES < progress[0] {
+    if limits::LINES < progress.lines {
         return;
     }
     if at == limits::ITEMS {
         put_end(s, t, marks, room, progress);
         return;
     }
-    let slot = notes::ITEM_PLACE + at;
-    let p = get(t, slot);
+    let p = get(t, notes::ITEM_PLACE + at);
     if s[p] == limits::BRANCHING_BYTE {
         put_branching(s, t, at, marks, room, progress);
         return;
     }
     let byte = s[p];
     let a = wide(byte);
-    let sensing = is_sensing(Form::Flags, s, t, a);
-    if sensing {
+    if is_sensing(Form::Flags, s, t, a) {
         put_sensing(s, t, at, a, marks, room, progress);
         return;
     }
@@ -170,17 +154,11 @@ fn put_branching(
     requires marked { Marked marks.now }
     requires narrow_from { NarrowFrom s.now t.now i marks.now }
     requires underway { Underway progress.old }
-    ensures { Put (lines_at s.now t.now i marks.now (line_count progress.old)) progress.old room.old progress.new room.new }
+    ensures { Put (lines_at s.now t.now i marks.now progress.old.lines) progress.old room.old progress.new room.new }
 {
-    match chosen(Form::Flags, s, t, i, marks) {
-        Found::At(at) => {
-            put_from(s, t, at, marks, room, progress);
-            put_next(s, t, i, marks, rule_bytes::BRANCHING_RULE, room, progress);
-            return;
-        }
-        Found::Nowhere => {
-            return;
-        }
+    if let Some(at) = chosen(Form::Flags, s, t, i, marks) {
+        put_from(s, t, at, marks, room, progress);
+        put_next(s, t, i, marks, rule_bytes::BRANCHING_RULE, room, progress);
     }
 }
 
@@ -201,9 +179,9 @@ fn put_acting(
     requires marked { Marked marks.now }
     requires narrow_from { NarrowFrom s.now t.now i marks.now }
     requires underway { Underway progress.old }
-    ensures { Put (lines_at s.now t.now i marks.now (line_count progress.old)) progress.old room.old progress.new room.new }
+    ensures { Put (lines_at s.now t.now i marks.now progress.old.lines) progress.old room.old progress.new room.new }
 {
-    let first = progress[0];
+    let first = progress.lines;
     let action = wide(a);
     let after = state_after(s, t, action, marks);
     put_action(a, marks, &after, room, progress);
@@ -229,11 +207,11 @@ fn put_sensing(
     requires marked { Marked marks.now }
     requires narrow_from { NarrowFrom s.now t.now i marks.now }
     requires underway { Underway progress.old }
-    ensures { Put (lines_at s.now t.now i marks.now (line_count progress.old)) progress.old room.old progress.new room.new }
+    ensures { Put (lines_at s.now t.now i marks.now progress.old.lines) progress.old room.old progress.new room.new }
 {
     let at = follow(Form::Flags, s, t, i);
     let f = first_unknown(Form::Flags, s, t, a, marks);
-    let mut cites = [0u16; CITE_SLOTS];
+    let mut cites = Cites::none();
     put_readings(s, t, a, at, f, marks, &mut cites, room, progress);
     put_goals(
         s,
@@ -266,24 +244,21 @@ fn put_readings(
     requires position { Position (plan_in Flags s.now t.now) at }
     requires marked { Marked marks.now }
     requires narrow_readings { NarrowReadings s.now t.now a at f marks.now }
-    requires cited { Cited cites.old }
-    requires marks_bound { get_or cites.old 0 0 + 2 ^ length (fluents_from s.now a f marks.now) ≤ format.citations }
+    requires marks_bound { length cites.old + 2 ^ length (fluents_from s.now a f marks.now) ≤ format.citations }
     requires underway { Underway progress.old }
-    ensures { ReadingsPut (2 ^ length (fluents_from s.now a f marks.now)) (readings_at s.now t.now a at f marks.now (line_count progress.old)) cites.old progress.old room.old cites.new progress.new room.new }
+    ensures { ReadingsPut (2 ^ length (fluents_from s.now a f marks.now)) (readings_at s.now t.now a at f marks.now progress.old.lines) cites.old progress.old room.old cites.new progress.new room.new }
 {
     if f < limits::FLUENTS {
-        let above = f + 1;
         let mut state = *marks;
         state[f] = limits::TRUE_MARK;
-        let g = next_unknown(Form::Flags, s, t, a, above, &state);
+        let g = next_unknown(Form::Flags, s, t, a, f + 1, &state);
         put_readings(s, t, a, at, g, &state, cites, room, progress);
         state[f] = limits::FALSE_MARK;
         put_readings(s, t, a, at, g, &state, cites, room, progress);
         return;
     }
     put_from(s, t, at, marks, room, progress);
-    let last = progress[0] - 1;
-    cite(cites, last);
+    cites.push(progress.lines - 1);
 }
 
 // How many lines there are, and how many bytes with the two of their number.
@@ -302,12 +277,11 @@ fn put_plan(s: &[u8], t: &Notes, room: &mut [u8]) -> Size
     let marks = state_of(s, 2);
     let items = get(t, notes::ITEMS);
     let at = start_of(items);
-    let mut progress = [0usize; PROGRESS_SLOTS];
-    progress[1] = 2;
+    let mut progress = Progress { lines: 0, end: 2 };
     put_from(s, t, at, &marks, room, &mut progress);
     Size {
-        lines: progress[0],
-        bytes: progress[1],
+        lines: progress.lines,
+        bytes: progress.end,
     }
 }
 

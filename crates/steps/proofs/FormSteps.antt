@@ -6,7 +6,6 @@ use mathlib.Core.List.{List, []}
 use lib.ListN.{get_or}
 use borrow.Author.Tests.{eq-eqb, ne_eqb}
 use Rattle.meaning.specs.Tests.{pick}
-use Rattle.meaning.specs.Limits
 use Rattle.meaning.specs.Refusals.{nowhere, first_against}
 use Rattle.meaning.specs.declared.Form.{Form}
 use Rattle.meaning.specs.declared.Form.TheVariants.{Flags, Valued}
@@ -21,14 +20,16 @@ use Rattle.reading.specs.Noted.{mode_slot}
 use Rattle.valuing.specs.Valuing.{ValuedMarks}
 use Rattle.finding.specs.ValueLines.{ValueEffects, ValueRuns}
 use Rattle.finding.proofs.ValueLineLaws.{effect_stands, body_stands}
+use Rattle.steps.specs.declared.trying.Mode.{Mode}
+use Rattle.steps.specs.declared.trying.Mode.TheVariants.{Values}
 use Rattle.steps.specs.declared.cases.Tried.{Tried}
 use Rattle.steps.specs.declared.cases.Tried.TheVariants.{Runs, Stuck, Many}
 use Rattle.steps.specs.Held.{table_in}
 use Rattle.steps.specs.AtHand.{AtHand, Marked, MarkedAs}
 use Rattle.steps.specs.LinesFound.{run_places, effect_places}
-use Rattle.steps.specs.Steps.{mode_in, does_in, after_in, tried_as, does_as, after_as, outcome_as, tries_as, values_mode, form_in, values_as}
+use Rattle.steps.specs.Steps.{mode_in, mode_named, does_in, after_in, tried_as, does_as, after_as, outcome_as, tries_as, values_mode, form_in, values_as}
 use Rattle.steps.proofs.HandLaws.{sections}
-use Rattle.steps.proofs.TriedLaws.{not_led}
+use Rattle.steps.proofs.TriedLaws.{not_led, values_named, named_values}
 
 -- BY THE FORM.
 module _ (form : Form) (s t : List ℕ) (here : AtHand form s t) where
@@ -115,6 +116,15 @@ module _ (t : List ℕ) (mode : ℕ) (is : mode ≡ get_or t mode_slot 0) where
   pub form_flags : (mode ≡ values_mode → ⊥) → Flags ≡ form_in t
   unfolding form_in mode_in
   form_flags other = sym (pick_false _ _ _ (ne_eqb _ values_mode (λ e. other (is ∙ e))))
+
+module _ (t : List ℕ) (mode : Mode) (is : mode ≡ mode_named (mode_in t)) where
+  pub mode_valued : mode ≡ Values → Valued ≡ form_in t
+  unfolding form_in
+  mode_valued e = sym (pick_true _ _ _ (eq-eqb _ values_mode (values_named _ (sym is ∙ e))))
+
+  pub mode_flags : (mode ≡ Values → ⊥) → Flags ≡ form_in t
+  unfolding form_in
+  mode_flags other = sym (pick_false _ _ _ (ne_eqb _ values_mode (λ e. other (is ∙ named_values _ e))))
 
 -- How many values a fluent has.
 pub flags_count : (form : Form) (s : List ℕ) (f : ℕ) → form ≡ Flags → 2 ≡ values_as form s f

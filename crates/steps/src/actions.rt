@@ -28,14 +28,12 @@ fn nearest(s: &[u8], t: &Notes, a: usize, marks: &Marks) -> Runs
     let mut k = next_line(t, notes::EXECUTABILITY, first);
     while 0 < k {
         let p = line_place(t, notes::EXECUTABILITY, k);
-        let body = p + 1;
-        let short = short_by(marks, s, body);
-        k = next_line(t, notes::EXECUTABILITY, k);
+        let short = short_by(marks, s, p + 1);
         if short < fewest {
             best = p;
             fewest = short;
-            continue;
         }
+        k = next_line(t, notes::EXECUTABILITY, k);
     }
     Runs::Short(best)
 }
@@ -49,9 +47,7 @@ pub fn ask(s: &[u8], t: &Notes, a: usize, marks: &Marks) -> Runs
     let mut k = first_line(t, notes::EXECUTABILITY, a);
     while 0 < k {
         let p = line_place(t, notes::EXECUTABILITY, k);
-        let body = p + 1;
-        let known = each_holds(Test::Known, marks, s, body);
-        if known {
+        if each_holds(Test::Known, marks, s, p + 1) {
             return Runs::By(p);
         }
         k = next_line(t, notes::EXECUTABILITY, k);
@@ -67,8 +63,7 @@ pub fn can_be_run(s: &[u8], t: &Notes, a: usize, marks: &Marks) -> bool
 {
     match ask(s, t, a, marks) {
         Runs::By(_) => true,
-        Runs::Short(_) => false,
-        Runs::Never => false,
+        _ => false,
     }
 }
 
@@ -86,32 +81,21 @@ pub fn state_after(s: &[u8], t: &Notes, a: usize, marks: &Marks) -> Marks
     while 0 < k {
         let p = line_place(t, notes::EFFECTS, k);
         k = next_line(t, notes::EFFECTS, k);
-        let one = p + 1;
-        let l = wide(s[one]);
+        let l = wide(s[p + 1]);
         let f = l / 2;
         let mark = mark_of(l);
         if next[f] == mark {
             continue;
         }
-        let body = p + 2;
         if next[f] == 0 {
-            let known = each_holds(Test::Known, marks, s, body);
-            if known {
+            if each_holds(Test::Known, marks, s, p + 2) {
                 next[f] = mark;
             }
-            continue;
-        }
-        match look_at(marks, s, body) {
-            Look::Known => {
-                next[f] = mark;
-                continue;
-            }
-            Look::Possible => {
-                next[f] = 0;
-                continue;
-            }
-            Look::Never => {
-                continue;
+        } else {
+            match look_at(marks, s, p + 2) {
+                Look::Known => next[f] = mark,
+                Look::Possible => next[f] = 0,
+                Look::Never => {}
             }
         }
     }

@@ -38,12 +38,11 @@ fn runs_in_each(s: &[u8], t: &Notes, a: usize, held: &Open, i: usize, marks: Mar
         let f = wide(held[next]);
         let mut state = marks;
         state[f] = limits::TRUE_MARK;
-        let first = runs_in_each(s, t, a, held, next, state);
-        if first {
-            state[f] = limits::FALSE_MARK;
-            return runs_in_each(s, t, a, held, next, state);
+        if !runs_in_each(s, t, a, held, next, state) {
+            return false;
         }
-        return false;
+        state[f] = limits::FALSE_MARK;
+        return runs_in_each(s, t, a, held, next, state);
     }
     can_be_run(s, t, a, &marks)
 }
@@ -55,13 +54,9 @@ fn shared(one: &Marks, other: &Marks) -> Marks
     ensures { result ≡ shared_marks (one.now ∷ other.now ∷ []) 0 one.now }
 {
     let mut both = *one;
-    let mut f = 0;
-    while f < limits::FLUENTS {
-        let g = f;
-        f += 1;
-        if one[g] != other[g] {
-            both[g] = limits::UNKNOWN_MARK;
-            continue;
+    for f in 0..limits::FLUENTS {
+        if one[f] != other[f] {
+            both[f] = limits::UNKNOWN_MARK;
         }
     }
     both
@@ -97,17 +92,12 @@ pub fn try_cases(s: &[u8], t: &Notes, a: usize, marks: &Marks) -> Tried
 {
     let held = opened(s, t, a, marks);
     if limits::OPEN < wide(held[0]) {
-        return Tried::Many;
+        Tried::Many
+    } else if can_be_run(s, t, a, marks) || runs_in_each(s, t, a, &held, 0, *marks) {
+        Tried::Runs
+    } else {
+        Tried::Stuck
     }
-    let known = can_be_run(s, t, a, marks);
-    if known {
-        return Tried::Runs;
-    }
-    let runs = runs_in_each(s, t, a, &held, 0, *marks);
-    if runs {
-        return Tried::Runs;
-    }
-    Tried::Stuck
 }
 
 // The state after an action that is not a sensing one and can be run by cases.

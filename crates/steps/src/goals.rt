@@ -10,7 +10,6 @@ ghost use Rattle.steps.specs.AtHand.{AtHand, MarkedAs};
 ghost use Rattle.steps.specs.Steps.{met_as, bound_as, knows_as, lacks_as, missed_as};
 
 use finding::branches::sequence_of;
-use finding::places::Found;
 use meaning::Form;
 use parsing::bytes::{two, wide};
 use reading::marks::{Marks, Test, holds};
@@ -36,48 +35,35 @@ fn met(asked: Asked, marks: &Marks, x: usize) -> bool
 }
 
 // The first entry of the list at p that is not met.
-fn first_missed(asked: Asked, marks: &Marks, s: &[u8], p: usize) -> Found
+fn first_missed(asked: Asked, marks: &Marks, s: &[u8], p: usize) -> Option<usize>
     requires { ListHere (bound_as asked) s.now p }
     ensures { result ≡ found (first_missed (met_as asked marks.now) (placed (p + 1) (listed s.now p))) }
 {
-    let end = p + wide(s[p]);
-    let mut i = p;
-    while i < end {
-        i += 1;
-        let x = wide(s[i]);
-        let good = met(asked, marks, x);
-        if good {
-            continue;
+    for i in p + 1..p + 1 + wide(s[p]) {
+        if !met(asked, marks, wide(s[i])) {
+            return Some(i);
         }
-        return Found::At(i);
     }
-    Found::Nowhere
+    None
 }
 
 // The first literal of values of the list at p that is not known true.
-fn first_value_missed(s: &[u8], marks: &Marks, p: usize) -> Found
+fn first_value_missed(s: &[u8], marks: &Marks, p: usize) -> Option<usize>
     requires values_here { ValuesHere s.now p }
     requires valued_marks { ValuedMarks s.now marks.now }
     ensures { result ≡ found (first_missed (Value.known (literals_in s.now) marks.now) (placed_twos (p + 1) (listed_as Valued s.now p))) }
 {
-    let mut left = wide(s[p]);
-    let mut at = p + 1;
-    while 0 < left {
-        let second = at + 1;
-        let l = two(s[at], s[second]);
-        let good = known(s, marks, l);
-        if good {
-            at += 2;
-            left -= 1;
-            continue;
+    for k in 0..wide(s[p]) {
+        let at = p + 1 + 2 * k;
+        if !known(s, marks, two(s[at], s[at + 1])) {
+            return Some(at);
         }
-        return Found::At(at);
     }
-    Found::Nowhere
+    None
 }
 
 // The first goal of the list at p that is not known true.
-fn goal_missed(form: Form, s: &[u8], marks: &Marks, p: usize) -> Found
+fn goal_missed(form: Form, s: &[u8], marks: &Marks, p: usize) -> Option<usize>
     requires literals_here { LiteralsHere form s.now p }
     requires marked_as { MarkedAs form s.now marks.now }
     ensures { result ≡ found (first_missed (knows_as form s.now marks.now) (placed_as form (p + 1) (listed_as form s.now p))) }
@@ -89,29 +75,26 @@ fn goal_missed(form: Form, s: &[u8], marks: &Marks, p: usize) -> Found
 }
 
 // The first guard that a state lacks. Where the notes have no place of guards there are none.
-pub fn lacking(form: Form, s: &[u8], t: &Notes, marks: &Marks) -> Found
+pub fn lacking(form: Form, s: &[u8], t: &Notes, marks: &Marks) -> Option<usize>
     requires { AtHand form s.now t.now }
     ensures { result ≡ found (lacks_as form s.now t.now marks.now) }
 {
     let guards = get(t, notes::GUARDS);
     if guards == 0 {
-        return Found::Nowhere;
+        return None;
     }
     first_missed(Asked::Goal, marks, s, guards)
 }
 
 // The first goal or whether entry that an end state misses.
-pub fn missed(form: Form, s: &[u8], t: &Notes, marks: &Marks) -> Found
+pub fn missed(form: Form, s: &[u8], t: &Notes, marks: &Marks) -> Option<usize>
     requires at_hand { AtHand form s.now t.now }
     requires marked_as { MarkedAs form s.now marks.now }
     ensures { result ≡ found (missed_as form s.now t.now marks.now) }
 {
     let goals = get(t, notes::GOALS);
     match goal_missed(form, s, marks, goals) {
-        Found::At(p) => Found::At(p),
-        Found::Nowhere => {
-            let whether = sequence_of(form, s, goals);
-            first_missed(Asked::Whether, marks, s, whether)
-        }
+        Some(p) => Some(p),
+        None => first_missed(Asked::Whether, marks, s, sequence_of(form, s, goals)),
     }
 }

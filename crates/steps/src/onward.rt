@@ -10,7 +10,6 @@ ghost use Rattle.steps.specs.Steps.{knows_as, Followed, Into, Chosen};
 ghost use Rattle.meaning.specs.declared.Form.TheVariants.{Flags};
 
 use finding::branches::{empty, next_item, next_place, sequence_of};
-use finding::places::Found;
 use meaning::Form;
 use parsing::bytes::wide;
 use parsing::limits;
@@ -32,12 +31,9 @@ pub fn follow(form: Form, s: &[u8], t: &Notes, i: usize) -> usize
     requires i_bound { i < items_of (plan_in form s.now t.now) }
     ensures { Followed form s.now t.now i result }
 {
-    let slot = notes::ITEM_NEXT + i;
-    let mut at = get(t, slot);
+    let mut at = get(t, notes::ITEM_NEXT + i);
     while limits::ITEMS < at {
-        let around = at - notes::AROUND_FROM;
-        let next = notes::ITEM_NEXT + around;
-        at = get(t, next);
+        at = get(t, notes::ITEM_NEXT + (at - notes::AROUND_FROM));
     }
     at
 }
@@ -49,12 +45,11 @@ fn into(form: Form, s: &[u8], t: &Notes, i: usize, p: usize, item: usize) -> usi
     requires branch_here { BranchHere form s.now p item }
     ensures { Into form s.now t.now i p item result }
 {
-    let q = sequence_of(form, s, p);
-    let none = empty(s, q);
-    if none {
-        return follow(form, s, t, i);
+    if empty(s, sequence_of(form, s, p)) {
+        follow(form, s, t, i)
+    } else {
+        item
     }
-    item
 }
 
 // Each literal of the list at p is known true.
@@ -70,35 +65,30 @@ fn is_known(form: Form, s: &[u8], p: usize, marks: &Marks) -> bool
 }
 
 // Where the walk goes on from the branching that is item i: in the branch whose condition is known true.
-pub fn chosen(form: Form, s: &[u8], t: &Notes, i: usize, marks: &Marks) -> Found
+pub fn chosen(form: Form, s: &[u8], t: &Notes, i: usize, marks: &Marks) -> Option<usize>
     requires at_hand { AtHand form s.now t.now }
     requires i_bound { i < items_of (plan_in form s.now t.now) }
     requires i_value { get_or s.now (get_or t.now (0 + i) 0) 0 ≡ 255 }
     requires marked_as { MarkedAs form s.now marks.now }
     ensures { Chosen form s.now t.now i marks.now result }
 {
-    let slot = notes::ITEM_PLACE + i;
-    let start = get(t, slot);
-    let second = start + 1;
-    let mut left = wide(s[second]);
+    let start = get(t, notes::ITEM_PLACE + i);
     let mut p = start + 2;
     let mut item = i + 1;
-    while 0 < left {
-        let known = is_known(form, s, p, marks);
-        if known {
-            return Found::At(into(form, s, t, i, p, item));
+    for _ in 0..wide(s[start + 1]) {
+        if is_known(form, s, p, marks) {
+            return Some(into(form, s, t, i, p, item));
         }
-        let q = next_place(form, s, t, p, item);
-        let j = next_item(form, s, t, p, item);
-        p = q;
-        item = j;
-        left -= 1;
+        (p, item) = (
+            next_place(form, s, t, p, item),
+            next_item(form, s, t, p, item),
+        );
     }
-    Found::Nowhere
+    None
 }
 
 // The same of a request of flags. The compiler makes this one a part of its caller.
-pub fn chosen_flags(s: &[u8], t: &Notes, i: usize, marks: &Marks) -> Found
+pub fn chosen_flags(s: &[u8], t: &Notes, i: usize, marks: &Marks) -> Option<usize>
     requires at_hand { AtHand Flags s.now t.now }
     requires i_bound { i < items_of (plan_in Flags s.now t.now) }
     requires i_value { get_or s.now (get_or t.now (0 + i) 0) 0 ≡ 255 }

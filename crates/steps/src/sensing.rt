@@ -19,9 +19,7 @@ pub fn is_sensing(form: Form, s: &[u8], t: &Notes, a: usize) -> bool
     requires a_lt_actions { a < format.actions }
     ensures { result ≡ sensing (table_in form s.now) a }
 {
-    let slot = notes::SENSED_TO + a;
-    let end = get(t, slot);
-    0 < end
+    0 < get(t, notes::SENSED_TO + a)
 }
 
 // The action has a knowledge line for the fluent.
@@ -41,17 +39,9 @@ pub fn next_unknown(form: Form, s: &[u8], t: &Notes, a: usize, from: usize, mark
     requires marked_as { MarkedAs form s.now marks.now }
     ensures { result ≡ first_of (unknown_as form s.now a marks.now from) }
 {
-    let last = notes::SENSED_TO + a;
-    let end = get(t, last);
-    let mut f = from;
-    while f < end {
-        let here = f;
-        f += 1;
-        if marks[here] == 0 {
-            let sensed = is_noted(t, a, here);
-            if sensed {
-                return here;
-            }
+    for f in from..get(t, notes::SENSED_TO + a) {
+        if marks[f] == 0 && is_noted(t, a, f) {
+            return f;
         }
     }
     limits::FLUENTS
@@ -64,9 +54,7 @@ pub fn first_unknown(form: Form, s: &[u8], t: &Notes, a: usize, marks: &Marks) -
     requires marked_as { MarkedAs form s.now marks.now }
     ensures { result ≡ first_of (all_unknown form s.now a marks.now) }
 {
-    let slot = notes::SENSED_FROM + a;
-    let back = get(t, slot);
-    let from = limits::FLUENTS - back;
+    let from = limits::FLUENTS - get(t, notes::SENSED_FROM + a);
     next_unknown(form, s, t, a, from, marks)
 }
 
@@ -84,8 +72,7 @@ pub fn is_too_wide(s: &[u8], t: &Notes, a: usize, marks: &Marks) -> bool
             return true;
         }
         met += 1;
-        let above = f + 1;
-        f = next_unknown(Form::Flags, s, t, a, above, marks);
+        f = next_unknown(Form::Flags, s, t, a, f + 1, marks);
     }
     false
 }

@@ -5,7 +5,7 @@ ghost use Rattle.meaning.specs.Schemes.{narrow_does};
 ghost use Rattle.steps.specs.declared.cases.Tried.TheVariants.{Runs};
 ghost use Rattle.steps.specs.Held.{table_in};
 ghost use Rattle.steps.specs.AtHand.{AtHand, Marked, MarkedAs};
-ghost use Rattle.steps.specs.Steps.{mode_in, does_in, after_in, refused_in, tried_as, does_as, after_as, tries_as, form_in, values_as};
+ghost use Rattle.steps.specs.Steps.{mode_in, mode_named, does_in, after_in, refused_in, tried_as, does_as, after_as, tries_as, form_in, values_as};
 ghost use Rattle.meaning.specs.declared.Form.TheVariants.{Flags, Valued};
 ghost use Rattle.valuing.specs.Valuing.{ValuedMarks};
 
@@ -30,6 +30,27 @@ pub const TOO_WIDE: u32 = 37;
 
 pub const TOO_MANY: u32 = 44;
 
+// How a walk goes: by what is known, the same up to a sensing action that is too wide, as one of a request with values, or by cases.
+#[derive(Clone, Copy)]
+pub enum Mode {
+    ByKnown,
+    Narrow,
+    Values,
+    ByCases,
+}
+
+// The mode of the walk.
+pub fn mode_of(t: &Notes) -> Mode
+    ensures { result ≡ mode_named (mode_in t.now) }
+{
+    match get(t, notes::MODE) {
+        0 => Mode::ByKnown,
+        NARROW => Mode::Narrow,
+        VALUES => Mode::Values,
+        _ => Mode::ByCases,
+    }
+}
+
 // The action is tried by what is known, unless it is too wide (FORMAT 24.16).
 fn try_narrow(s: &[u8], t: &Notes, a: usize, marks: &Marks) -> Tried
     requires at_hand { AtHand Flags s.now t.now }
@@ -37,15 +58,13 @@ fn try_narrow(s: &[u8], t: &Notes, a: usize, marks: &Marks) -> Tried
     requires marked { Marked marks.now }
     ensures { narrow_does (table_in Flags s.now) a marks.now ≡ tried_as 2 (table_in Flags s.now) a marks.now result }
 {
-    let wide = is_too_wide(s, t, a, marks);
-    if wide {
-        return Tried::Many;
+    if is_too_wide(s, t, a, marks) {
+        Tried::Many
+    } else if can_be_run(s, t, a, marks) {
+        Tried::Runs
+    } else {
+        Tried::Stuck
     }
-    let runs = can_be_run(s, t, a, marks);
-    if runs {
-        return Tried::Runs;
-    }
-    Tried::Stuck
 }
 
 // Whether an action of flags can be run, in the mode of the walk.
@@ -55,18 +74,15 @@ fn try_flags(s: &[u8], t: &Notes, a: usize, marks: &Marks) -> Tried
     requires marked { Marked marks.now }
     ensures { does_in (mode_in t.now) (table_in Flags s.now) a marks.now ≡ tried_as (mode_in t.now) (table_in Flags s.now) a marks.now result }
 {
-    let mode = get(t, notes::MODE);
-    if mode == 0 {
-        let runs = can_be_run(s, t, a, marks);
-        if runs {
-            return Tried::Runs;
-        }
-        return Tried::Stuck;
+    match mode_of(t) {
+        Mode::ByKnown => if can_be_run(s, t, a, marks) {
+            Tried::Runs
+        } else {
+            Tried::Stuck
+        },
+        Mode::Narrow => try_narrow(s, t, a, marks),
+        _ => try_cases(s, t, a, marks),
     }
-    if mode == NARROW {
-        return try_narrow(s, t, a, marks);
-    }
-    try_cases(s, t, a, marks)
 }
 
 // Whether an action of a request with values can be run.
@@ -76,11 +92,11 @@ fn try_valued(s: &[u8], t: &Notes, a: usize, marks: &Marks) -> Tried
     requires valued_marks { ValuedMarks s.now marks.now }
     ensures { does_as Valued s.now t.now a marks.now ≡ tries_as Valued s.now t.now a marks.now result }
 {
-    let runs = value_actions::can_be_run(s, t, a, marks);
-    if runs {
-        return Tried::Runs;
+    if value_actions::can_be_run(s, t, a, marks) {
+        Tried::Runs
+    } else {
+        Tried::Stuck
     }
-    Tried::Stuck
 }
 
 // Whether an action can be run.
@@ -100,11 +116,10 @@ pub fn tried(form: Form, s: &[u8], t: &Notes, a: usize, marks: &Marks) -> Tried
 pub fn refused(t: &Notes) -> u32
     ensures { result ≡ refused_in (mode_in t.now) }
 {
-    let mode = get(t, notes::MODE);
-    if mode == NARROW {
-        return TOO_WIDE;
+    match mode_of(t) {
+        Mode::Narrow => TOO_WIDE,
+        _ => TOO_MANY,
     }
-    TOO_MANY
 }
 
 // The state after an action of flags that is not a sensing one and can be run.
@@ -115,14 +130,10 @@ fn after_flags(s: &[u8], t: &Notes, a: usize, marks: &Marks) -> Marks
     requires marks_value { does_in (mode_in t.now) (table_in Flags s.now) a marks.now ≡ tried_as (mode_in t.now) (table_in Flags s.now) a marks.now Runs }
     ensures { result ≡ after_in (mode_in t.now) (table_in Flags s.now) a marks.now }
 {
-    let mode = get(t, notes::MODE);
-    if mode == 0 {
-        return state_after(s, t, a, marks);
+    match mode_of(t) {
+        Mode::ByKnown | Mode::Narrow => state_after(s, t, a, marks),
+        _ => after_cases(s, t, a, marks),
     }
-    if mode == NARROW {
-        return state_after(s, t, a, marks);
-    }
-    after_cases(s, t, a, marks)
 }
 
 // The state after an action that is not a sensing one and can be run.
@@ -143,11 +154,10 @@ pub fn after(form: Form, s: &[u8], t: &Notes, a: usize, marks: &Marks) -> Marks
 pub fn form_of(t: &Notes) -> Form
     ensures { result ≡ form_in t.now }
 {
-    let mode = get(t, notes::MODE);
-    if mode == VALUES {
-        return Form::Valued;
+    match mode_of(t) {
+        Mode::Values => Form::Valued,
+        _ => Form::Flags,
     }
-    Form::Flags
 }
 
 // How many values a fluent has.

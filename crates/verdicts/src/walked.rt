@@ -13,7 +13,7 @@ use reading::notes;
 use reading::notes::{Notes, get};
 use steps::onward::start_of;
 use valuing::states::first_state;
-use walking::tally::opened;
+use walking::tally::Tally;
 use walking::walk::walk;
 
 // The walk of a request at hand from its first state.
@@ -23,9 +23,8 @@ fn walk_from(request: &[u8], t: &Notes, marks: Marks, state: &mut [u8], budget: 
     requires state_len { length state.old ≡ format.state }
     ensures { record { answer = result; state = state.new } ≡ within state.old budget (walk_held (form_in t.now) request.now t.now) }
 {
-    let items = get(t, notes::ITEMS);
-    let at = start_of(items);
-    let mut tally = opened(budget);
+    let at = start_of(get(t, notes::ITEMS));
+    let mut tally = Tally::opened(budget);
     walk(request, t, at, marks, &mut tally);
     tell(&tally, state, budget)
 }
@@ -37,8 +36,7 @@ pub fn walk_plan(request: &[u8], t: &Notes, state: &mut [u8], budget: u32) -> An
     requires state_len { length state.old ≡ format.state }
     ensures { record { answer = result; state = state.new } ≡ within state.old budget (walk_held Flags request.now t.now) }
 {
-    let marks = state_of(request, 2);
-    walk_from(request, t, marks, state, budget)
+    walk_from(request, t, state_of(request, 2), state, budget)
 }
 
 // The walk of a request with values at hand.
@@ -48,7 +46,6 @@ pub fn walk_values(request: &[u8], t: &Notes, state: &mut [u8], budget: u32) -> 
     requires state_len { length state.old ≡ format.state }
     ensures { record { answer = result; state = state.new } ≡ within state.old budget (walk_held Valued request.now t.now) }
 {
-    let facts = 2 + wide(request[0]);
-    let marks = first_state(request, facts);
+    let marks = first_state(request, 2 + wide(request[0]));
     walk_from(request, t, marks, state, budget)
 }

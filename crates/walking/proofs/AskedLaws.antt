@@ -4,18 +4,20 @@ use mathlib.Core.Path.{◌≡◌, sym, ◌∙◌, ap, subst}
 use mathlib.Core.Bool.{Bool, true, false}
 use mathlib.Core.List.{List}
 use lib.Dec.{ltb}
+use Rattle.std.specs.Prelude.{Option}
 use Rattle.meaning.specs.Tests.{both}
 use Rattle.meaning.specs.declared.Form.{Form}
 use Rattle.meaning.specs.Lines.{sensing}
 use Rattle.meaning.specs.States.{State}
 use Rattle.reading.specs.Planned.{items_of}
 use Rattle.finding.specs.Places.{found}
-use Rattle.finding.specs.declared.places.Found.{Found}
 use Rattle.steps.specs.declared.cases.Tried.{Tried}
 use Rattle.steps.specs.declared.cases.Tried.TheVariants.{Runs}
 use Rattle.steps.specs.Held.{table_in, plan_in}
 use Rattle.steps.specs.AtHand.{AtHand, MarkedAs}
 use Rattle.steps.specs.Steps.{form_in, does_as, after_as, tries_as, unknown_as, all_unknown, first_of, lacks_as, missed_as, values_as, Followed, Chosen}
+use Rattle.walking.specs.declared.tally.Course.{Course}
+use Rattle.walking.specs.Standing.{goes_on}
 use Rattle.walking.specs.Walks.{Fit}
 
 module _ (form : Form) (s t : List ℕ) (is : form ≡ form_in t) where
@@ -54,20 +56,20 @@ module _ (form : Form) (s t : List ℕ) (is : form ≡ form_in t) where
   pub follow_back : (i r : ℕ) → Followed form s t i r → Followed (form_in t) s t i r
   follow_back i r follows = subst (λ (x : Form). Followed x s t i r) is follows
 
-  pub chosen_back : (i : ℕ) (marks : State) (r : Found) → Chosen form s t i marks r → Chosen (form_in t) s t i marks r
+  pub chosen_back : (i : ℕ) (marks : State) (r : Option ℕ) → Chosen form s t i marks r → Chosen (form_in t) s t i marks r
   chosen_back i marks r chosen = subst (λ (x : Form). Chosen x s t i marks r) is chosen
 
-  pub lacking_back : (marks : State) (r : Found) → r ≡ found (lacks_as form s t marks) → r ≡ found (lacks_as (form_in t) s t marks)
+  pub lacking_back : (marks : State) (r : Option ℕ) → r ≡ found (lacks_as form s t marks) → r ≡ found (lacks_as (form_in t) s t marks)
   lacking_back marks r e = e ∙ ap (λ (x : Form). found (lacks_as x s t marks)) is
 
-  pub missed_back : (marks : State) (r : Found) → r ≡ found (missed_as form s t marks) → r ≡ found (missed_as (form_in t) s t marks)
+  pub missed_back : (marks : State) (r : Option ℕ) → r ≡ found (missed_as form s t marks) → r ≡ found (missed_as (form_in t) s t marks)
   missed_back marks r e = e ∙ ap (λ (x : Form). found (missed_as x s t marks)) is
 
 -- WHETHER THERE IS MORE TO READ.
-pub more_over : (on : Bool) (number : ℕ) (w : Bool) → on ≡ ltb number 2 → on ≡ false → false ≡ both (ltb number 2) w
+pub more_on : (on : Bool) (c : Course) → on ≡ goes_on c → on ≡ true → (wide m last v : ℕ) → wide ≡ m → last ≡ v → ltb wide last ≡ both (goes_on c) (ltb m v)
 unfolding both
-more_over on number w says e = rw (sym says, e)
+more_on on c says yes-on wide m last v is e = rw (sym says, yes-on, is, e)
 
-pub more_on : (on : Bool) (number m last : ℕ) → on ≡ ltb number 2 → on ≡ true → (wide : ℕ) → wide ≡ m → (v : ℕ) → last ≡ v → ltb wide last ≡ both (ltb number 2) (ltb m v)
+pub more_over : (on : Bool) (c : Course) → on ≡ goes_on c → on ≡ false → (w : Bool) → on ≡ both (goes_on c) w
 unfolding both
-more_on on number m last says yes-on wide is v e = rw (sym says, yes-on, is, e)
+more_over on c says no-more w = rw (sym says, no-more)

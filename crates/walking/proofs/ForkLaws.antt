@@ -5,7 +5,7 @@ use native.Mathlib.Omega.{arith}
 use mathlib.Core.Path.{◌≡◌, refl, sym, ◌∙◌, ap}
 use mathlib.Core.Bool.{Bool, true, false}
 use mathlib.Core.List.{List, [], ◌∷◌}
-use lib.ListN.{length, get_or, set}
+use lib.ListN.{get_or, set}
 use lib.Seq.{set-set, get_or-set_same}
 use lib.Dec.{ltb}
 use mir.Syntax.{w8}
@@ -24,16 +24,12 @@ use Rattle.steps.specs.Steps.{form_in, values_as, readings_as, step_in, walk_aft
 use Rattle.steps.proofs.OnwardLaws.{followed_met}
 use Rattle.steps.proofs.FormSteps.{flags_count}
 use Rattle.steps.proofs.LookAs.{unknown_set_as, unknown_first_as, unknown_above_as, unknown_unmarked_as, unknown_none_as}
-use Rattle.walking.specs.Standing.{Standing, add, standing, Going, tally_slots}
+use Rattle.walking.specs.declared.tally.Tally.{Tally}
+use Rattle.walking.specs.Standing.{Standing, add, standing, goes_on, Going}
 use Rattle.walking.specs.Walks.{Fit, action_at, read_on, fork_from, value_read, add_values, add_higher}
 use Rattle.walking.proofs.FitLaws.{fit_sized, fit_told, few_values, many_values, readings_first, no_readings}
-use Rattle.walking.proofs.StandingLaws.{add_then, sized_after}
+use Rattle.walking.proofs.StandingLaws.{add_then}
 use Rattle.walking.proofs.WalkArms.{over}
-
--- How many readings are left, while there are more.
-unfoldable pub to_read : (more : Bool) → ℕ → ℕ
-to_read true n = n
-to_read false n = 0
 
 module _ (s t : List ℕ) (i f : ℕ) (marks : State) where
   abbrev adds : Standing → List ℕ → Standing
@@ -64,14 +60,14 @@ module _ (s t : List ℕ) (i f : ℕ) (marks : State) where
       ∙ some_values b (values_as (form_in t) s f) some
 
   -- Nothing more is added to what has stopped or is spent.
-  stopped_values : (after : List ℕ) (on : Bool) → on ≡ ltb (get_or after 0 0) 2 → on ≡ false → (vs : List ℕ) → standing after ≡ adds (standing after) vs
+  stopped_values : (after : Tally) (on : Bool) → on ≡ goes_on after.course → on ≡ false → (vs : List ℕ) → standing after ≡ adds (standing after) vs
   unfolding add_values
   stopped_values after on says no_more [] = refl
   stopped_values after on says no_more (v ∷ vs) =
       stopped_values after on says no_more vs ∙ ap (λ (b : Standing). adds b vs) (over after on says no_more (value_read (form_in t) s t i f marks v))
 
 -- ONE READING of the fluent, in a state that has the value's mark: a fork of the next unknown fluent, or what follows the action.
-module _ (s t : List ℕ) (i f : ℕ) (marks : State) (p a : ℕ) (place : p ≡ get_or t (0 + i) 0) (action : a ≡ get_or s p 0) (g : ℕ) (next : g ≡ first_of (unknown_as (form_in t) s a marks (f + 1))) (state : State) (v : ℕ) (told : state ≡ set marks f (v + 1)) (fit : Fit s t state) (before after : List ℕ) where
+module _ (s t : List ℕ) (i f : ℕ) (marks : State) (p a : ℕ) (place : p ≡ get_or t (0 + i) 0) (action : a ≡ get_or s p 0) (g : ℕ) (next : g ≡ first_of (unknown_as (form_in t) s a marks (f + 1))) (state : State) (v : ℕ) (told : state ≡ set marks f (v + 1)) (fit : Fit s t state) (before after : Tally) where
   is_action : action_at s t i ≡ a
   unfolding action_at
   is_action = ap (λ (q : ℕ). get_or s q 0) (sym place) ∙ sym action
@@ -118,52 +114,45 @@ higher_all s t here i g marks none b =
     ∙ sym (fork_values s t i g marks b (omega arith))
 
 -- THE LOOP over the values of the fluent: what is left to add is what was to be added from the first.
-pub record Forking (s t : List ℕ) (i f : ℕ) (marks : State) (whole : Standing) (tally : List ℕ) (state : State) (more : Bool) : Type 0 where
+pub record Forking (s t : List ℕ) (i f : ℕ) (marks : State) (whole : Standing) (tally : Tally) (state : State) : Type 0 where
   pub same : (m : ℕ) → set state f m ≡ set marks f m
   pub fit : Fit s t state
-  pub going : more ≡ true → Going tally
-  pub left : more ≡ true → get_or state f 0 < values_as (form_in t) s f
-  pub rest : more ≡ true → whole ≡ add_values (form_in t) s t i f marks (standing tally) (numbers (get_or state f 0) (values_as (form_in t) s f - get_or state f 0))
-  pub end : more ≡ false → standing tally ≡ whole
+  pub rest : whole ≡ add_values (form_in t) s t i f marks (standing tally) (numbers (get_or state f 0) (values_as (form_in t) s f - get_or state f 0))
 
-module _ (s t : List ℕ) (i f : ℕ) (marks : State) (tally : List ℕ) (more : Bool) (says : more ≡ both (ltb (get_or tally 0 0) 2) (ltb (get_or marks f 0) (values_as (form_in t) s f))) where
+-- It starts with the next value.
+pub forking_starts : (s t : List ℕ) (i f : ℕ) (marks : State) (tally : Tally) → Fit s t marks → Forking s t i f marks (add_higher (form_in t) s t i f marks (standing tally)) tally marks
+unfolding add_higher
+forking_starts s t i f marks tally fit = record { same = λ m. refl; fit = fit; rest = refl }
+
+module _ (s t : List ℕ) (i f : ℕ) (marks : State) (whole : Standing) (tally : Tally) (state : State) (now : Forking s t i f marks whole tally state)
+    (more : Bool) (says : more ≡ both (goes_on tally.course) (ltb (get_or state f 0) (values_as (form_in t) s f))) where
   -- No value is left, or the walk is over.
-  pub higher_none : more ≡ false → standing tally ≡ add_higher (form_in t) s t i f marks (standing tally)
-  unfolding add_higher numbers add_values
-  higher_none e =
-      by-test (ltb (get_or tally 0 0) 2)
+  pub forking_ends : more ≡ false → standing tally ≡ whole
+  unfolding numbers add_values
+  forking_ends e =
+      by-test (goes_on tally.course)
       (λ goes.
-      by-test (ltb (get_or marks f 0) (values_as (form_in t) s f))
+      by-test (ltb (get_or state f 0) (values_as (form_in t) s f))
       (λ low. clash (both_true _ _ goes low) (sym says ∙ e))
       (λ high.
-      let past : values_as (form_in t) s f ≤ get_or marks f 0 = ltb-false _ _ high in
-      let none : values_as (form_in t) s f - get_or marks f 0 ≡ 0 = omega arith in
-      sym (ap (λ (n : ℕ). add_values (form_in t) s t i f marks (standing tally) (numbers (get_or marks f 0) n)) none)))
-      (λ off. stopped_values s t i f marks tally (ltb (get_or tally 0 0) 2) refl off (numbers (get_or marks f 0) (values_as (form_in t) s f - get_or marks f 0)))
+      let past : values_as (form_in t) s f ≤ get_or state f 0 = ltb-false _ _ high in
+      let none : values_as (form_in t) s f - get_or state f 0 ≡ 0 = omega arith in
+      sym (now.rest ∙ ap (λ (n : ℕ). add_values (form_in t) s t i f marks (standing tally) (numbers (get_or state f 0) n)) none)))
+      (λ off. stopped_values s t i f marks tally (goes_on tally.course) refl off (numbers (get_or state f 0) (values_as (form_in t) s f - get_or state f 0)) ∙ sym now.rest)
 
-  -- It starts with the next value.
-  pub forking_starts : more ≡ true → length tally ≡ tally_slots → Fit s t marks → Forking s t i f marks (add_higher (form_in t) s t i f marks (standing tally)) tally marks more
-  unfolding add_higher
-  forking_starts on sized fit =
-      record {
-        same = λ m. refl;
-        fit = fit;
-        going = λ _. record { sized = sized; on = ltb-true _ _ (both_left _ _ (sym says ∙ on)) };
-        left = λ _. ltb-true _ _ (both_right _ _ (sym says ∙ on));
-        rest = λ _. refl;
-        end = λ e. clash on e;
-      }
-
-module _ (s t : List ℕ) (i f : ℕ) (marks : State) (small : f < format.fluents) where
-  module _ (whole : Standing) (tally : List ℕ) (state : State) (reads : Bool) (now : Forking s t i f marks whole tally state reads) (on : reads ≡ true) where
+  -- There is another.
+  module _ (small : f < format.fluents) (on : more ≡ true) where
     pub forking_going : Going tally
-    forking_going = now.going on
+    forking_going = record { on = both_left _ _ (sym says ∙ on) }
+
+    forking_low : get_or state f 0 < values_as (form_in t) s f
+    forking_low = ltb-true _ _ (both_right _ _ (sym says ∙ on))
 
     pub forking_fits : AtHand (form_in t) s t → Fits w8 (get_or state f 0 + 1)
-    forking_fits here = let low = now.left on in let few = few_values s t here f in record { fits = omega arith }
+    forking_fits here = let low = forking_low in let few = few_values s t here f in record { fits = omega arith }
 
     pub forking_fit : Fit s t (set state f (get_or state f 0 + 1))
-    forking_fit = fit_told s t state now.fit f (get_or state f 0) small (now.left on)
+    forking_fit = fit_told s t state now.fit f (get_or state f 0) small forking_low
 
     turned : set state f (get_or state f 0 + 1) ≡ set marks f (get_or state f 0 + 1)
     turned = now.same (get_or state f 0 + 1)
@@ -171,66 +160,39 @@ module _ (s t : List ℕ) (i f : ℕ) (marks : State) (small : f < format.fluent
     new_mark : get_or (set state f (get_or state f 0 + 1)) f 0 ≡ get_or state f 0 + 1
     new_mark = let sized = fit_sized s t state now.fit in get_or-set_same state f (get_or state f 0 + 1) 0 (omega (arith, sized))
 
-    pub forking_less : (more : Bool) → to_read more (values_as (form_in t) s f - get_or (set state f (get_or state f 0 + 1)) f 0) < to_read reads (values_as (form_in t) s f - get_or state f 0)
-    unfolding to_read
-    forking_less true = let low = now.left on in let mark = new_mark in rw on (omega arith)
-    forking_less false = let low = now.left on in rw on (omega arith)
+    pub forking_less : values_as (form_in t) s f - get_or (set state f (get_or state f 0 + 1)) f 0 < values_as (form_in t) s f - get_or state f 0
+    forking_less = let low = forking_low in let mark = new_mark in omega arith
 
     -- One value was read.
-    on_from : (after : List ℕ) → standing after ≡ add (standing tally) (value_read (form_in t) s t i f marks (get_or state f 0)) → (more : Bool)
-        → more ≡ both (ltb (get_or after 0 0) 2) (ltb (get_or (set state f (get_or state f 0 + 1)) f 0) (values_as (form_in t) s f)) → Forking s t i f marks whole after (set state f (get_or state f 0 + 1)) more
+    on_from : (after : Tally) → standing after ≡ add (standing tally) (value_read (form_in t) s t i f marks (get_or state f 0)) → Forking s t i f marks whole after (set state f (get_or state f 0 + 1))
     unfolding numbers add_values
-    on_from after read more says =
-        record {
-          same = λ m. set-set state f (get_or state f 0 + 1) m ∙ now.same m;
-          fit = forking_fit;
-          going = λ e. record { sized = sized_after tally forking_going (value_read (form_in t) s t i f marks (get_or state f 0)) after read; on = ltb-true _ _ (both_left _ _ (sym says ∙ e)) };
-          left = λ e. ltb-true _ _ (both_right _ _ (sym says ∙ e));
-          rest = λ _. ahead;
-          end = λ e. ended e;
-        }
+    on_from after read = record { same = λ m. set-set state f (get_or state f 0 + 1) m ∙ now.same m; fit = forking_fit; rest = ahead }
       where
         later : List ℕ
         later = numbers (get_or (set state f (get_or state f 0 + 1)) f 0) (values_as (form_in t) s f - get_or (set state f (get_or state f 0 + 1)) f 0)
 
         split : numbers (get_or state f 0) (values_as (form_in t) s f - get_or state f 0) ≡ get_or state f 0 ∷ later
         split =
-            let low = now.left on in
+            let low = forking_low in
             let one : values_as (form_in t) s f - get_or state f 0 ≡ suc (values_as (form_in t) s f - (get_or state f 0 + 1)) = omega arith in
             ap (numbers (get_or state f 0)) one
             ∙ ap (λ (m : ℕ). get_or state f 0 ∷ numbers m (values_as (form_in t) s f - m)) (sym new_mark)
 
         ahead : whole ≡ add_values (form_in t) s t i f marks (standing after) later
         ahead =
-            now.rest on
+            now.rest
             ∙ ap (add_values (form_in t) s t i f marks (standing tally)) split
             ∙ ap (λ (b : Standing). add_values (form_in t) s t i f marks b later) (sym read)
 
-        ended : more ≡ false → standing after ≡ whole
-        ended e =
-            by-test (ltb (get_or after 0 0) 2)
-            (λ goes.
-            by-test (ltb (get_or (set state f (get_or state f 0 + 1)) f 0) (values_as (form_in t) s f))
-            (λ low. clash (both_true _ _ goes low) (sym says ∙ e))
-            (λ high.
-            let past : values_as (form_in t) s f ≤ get_or (set state f (get_or state f 0 + 1)) f 0 = ltb-false _ _ high in
-            let none : values_as (form_in t) s f - get_or (set state f (get_or state f 0 + 1)) f 0 ≡ 0 = omega arith in
-            sym (ahead ∙ ap (λ (n : ℕ). add_values (form_in t) s t i f marks (standing after) (numbers (get_or (set state f (get_or state f 0 + 1)) f 0) n)) none)))
-            (λ off. stopped_values s t i f marks after (ltb (get_or after 0 0) 2) refl off later ∙ sym ahead)
-
-    module _ (p a : ℕ) (place : p ≡ get_or t (0 + i) 0) (action : a ≡ get_or s p 0) (g : ℕ) (next : g ≡ first_of (unknown_as (form_in t) s a marks (f + 1)))
-        (after : List ℕ) (more : Bool) (says : more ≡ both (ltb (get_or after 0 0) 2) (ltb (get_or (set state f (get_or state f 0 + 1)) f 0) (values_as (form_in t) s f))) where
-      pub forking_forks : AtHand (form_in t) s t → g < format.fluents → standing after ≡ add_higher (form_in t) s t i g (set state f (get_or state f 0 + 1)) (standing tally) → Forking s t i f marks whole after (set state f (get_or state f 0 + 1)) more
+    module _ (p a : ℕ) (place : p ≡ get_or t (0 + i) 0) (action : a ≡ get_or s p 0) (g : ℕ) (next : g ≡ first_of (unknown_as (form_in t) s a marks (f + 1))) (after : Tally) where
+      pub forking_forks : AtHand (form_in t) s t → g < format.fluents → standing after ≡ add_higher (form_in t) s t i g (set state f (get_or state f 0 + 1)) (standing tally) → Forking s t i f marks whole after (set state f (get_or state f 0 + 1))
       forking_forks here near walked =
           let above = first_next s t i f marks p a place action g next _ (get_or state f 0) turned forking_fit tally after in
           let none = unknown_unmarked_as (form_in t) s (action_at s t i) _ forking_fit.marked (f + 1) g above near in
-          on_from after (read_forks s t i f marks p a place action g next _ (get_or state f 0) turned forking_fit tally after near (walked ∙ higher_all s t here i g _ none (standing tally))) more says
+          on_from after (read_forks s t i f marks p a place action g next _ (get_or state f 0) turned forking_fit tally after near (walked ∙ higher_all s t here i g _ none (standing tally)))
 
-      pub forking_walks : format.fluents ≤ g → (r : ℕ) → Followed (form_in t) s t i r → standing after ≡ add (standing tally) (met_from (form_in t) s t r (set state f (get_or state f 0 + 1))) → Forking s t i f marks whole after (set state f (get_or state f 0 + 1)) more
-      forking_walks far r follows walked = on_from after (read_walks s t i f marks p a place action g next _ (get_or state f 0) turned forking_fit tally after far r follows walked) more says
-
-  pub forking_ends : (whole : Standing) (tally : List ℕ) (state : State) (more : Bool) → Forking s t i f marks whole tally state more → more ≡ false → standing tally ≡ whole
-  forking_ends whole tally state more now off = now.end off
+      pub forking_walks : format.fluents ≤ g → (r : ℕ) → Followed (form_in t) s t i r → standing after ≡ add (standing tally) (met_from (form_in t) s t r (set state f (get_or state f 0 + 1))) → Forking s t i f marks whole after (set state f (get_or state f 0 + 1))
+      forking_walks far r follows walked = on_from after (read_walks s t i f marks p a place action g next _ (get_or state f 0) turned forking_fit tally after far r follows walked)
 
 -- THE FIRST TWO VALUES, which every fluent has, and then the others.
 module _ (s t : List ℕ) (here : AtHand (form_in t) s t) (f : ℕ) (small : f < format.fluents) (marks : State) (fit : Fit s t marks) where
@@ -251,7 +213,7 @@ module _ (s t : List ℕ) (here : AtHand (form_in t) s t) (i f : ℕ) (small : f
   values_forgotten m b [] = refl
   values_forgotten m b (v ∷ vs) = values_forgotten m (add b (value_read (form_in t) s t i f (set marks f m) v)) vs ∙ ap (λ (w : Walked State). add_values (form_in t) s t i f marks (add b w) vs) (value_forgotten m v)
 
-  module _ (tally after : List ℕ) (first : standing after ≡ add (standing tally) (value_read (form_in t) s t i f marks 0)) where
+  module _ (tally after : Tally) (first : standing after ≡ add (standing tally) (value_read (form_in t) s t i f marks 0)) where
     later : List ℕ
     later = numbers 2 (values_as (form_in t) s f - 2)
 
@@ -264,17 +226,17 @@ module _ (s t : List ℕ) (here : AtHand (form_in t) s t) (i f : ℕ) (small : f
         ∙ ap (λ (n : ℕ). add_values (form_in t) s t i f marks (standing tally) (numbers 0 n)) two
         ∙ ap (λ (b : Standing). add_values (form_in t) s t i f marks b (1 ∷ later)) (sym first)
 
-    read_once : (on : Bool) → on ≡ ltb (get_or after 0 0) 2 → on ≡ false → standing after ≡ add (standing tally) (fork_from (form_in t) s t i f marks)
+    read_once : (on : Bool) → on ≡ goes_on after.course → on ≡ false → standing after ≡ add (standing tally) (fork_from (form_in t) s t i f marks)
     read_once on says off = stopped_values s t i f marks after on says off (1 ∷ later) ∙ sym forked
 
-    read_flags : Flags ≡ form_in t → (second : List ℕ) → standing second ≡ add (standing after) (value_read (form_in t) s t i f marks 1) → standing second ≡ add (standing tally) (fork_from (form_in t) s t i f marks)
+    read_flags : Flags ≡ form_in t → (second : Tally) → standing second ≡ add (standing after) (value_read (form_in t) s t i f marks 1) → standing second ≡ add (standing tally) (fork_from (form_in t) s t i f marks)
     unfolding add_values later numbers
     read_flags flags second read =
         let two : 2 ≡ values_as (form_in t) s f = flags_count (form_in t) s f (sym flags) in
         let none : values_as (form_in t) s f - 2 ≡ 0 = omega arith in
         read ∙ sym (forked ∙ ap (λ (n : ℕ). add_values (form_in t) s t i f marks (standing after) (1 ∷ numbers 2 n)) none)
 
-    read_all : (second third : List ℕ) → standing second ≡ add (standing after) (value_read (form_in t) s t i f marks 1) → standing third ≡ add_higher (form_in t) s t i f (set (set marks f 1) f 2) (standing second)
+    read_all : (second third : Tally) → standing second ≡ add (standing after) (value_read (form_in t) s t i f marks 1) → standing third ≡ add_higher (form_in t) s t i f (set (set marks f 1) f 2) (standing second)
         → standing third ≡ add (standing tally) (fork_from (form_in t) s t i f marks)
     unfolding add_higher add_values later
     read_all second third read rest =
@@ -287,7 +249,7 @@ module _ (s t : List ℕ) (here : AtHand (form_in t) s t) (i f : ℕ) (small : f
         ∙ ap (λ (b : Standing). add_values (form_in t) s t i f marks b later) read
         ∙ sym forked
 
-  module _ (p a : ℕ) (place : p ≡ get_or t (0 + i) 0) (action : a ≡ get_or s p 0) (g : ℕ) (next : g ≡ first_of (unknown_as (form_in t) s a (set marks f 1) (f + 1))) (tally after : List ℕ) where
+  module _ (p a : ℕ) (place : p ≡ get_or t (0 + i) 0) (action : a ≡ get_or s p 0) (g : ℕ) (next : g ≡ first_of (unknown_as (form_in t) s a (set marks f 1) (f + 1))) (tally after : Tally) where
     next_above : g ≡ first_of (unknown_as (form_in t) s a marks (f + 1))
     next_above = next ∙ ap first_of (unknown_set_as (form_in t) s a marks f 1)
 
@@ -296,17 +258,17 @@ module _ (s t : List ℕ) (here : AtHand (form_in t) s t) (i f : ℕ) (small : f
       first_forks : standing after ≡ add (standing tally) (value_read (form_in t) s t i f marks 0)
       first_forks = read_forks s t i f marks p a place action g next_above (set marks f 1) 0 refl (first_fits s t here f small marks fit) tally after near walked
 
-      second_forks : (second : List ℕ) → standing second ≡ add (standing after) (fork_from (form_in t) s t i g (set (set marks f 1) f 2)) → standing second ≡ add (standing after) (value_read (form_in t) s t i f marks 1)
+      second_forks : (second : Tally) → standing second ≡ add (standing after) (fork_from (form_in t) s t i g (set (set marks f 1) f 2)) → standing second ≡ add (standing after) (value_read (form_in t) s t i f marks 1)
       second_forks second again = read_forks s t i f marks p a place action g next_above (set (set marks f 1) f 2) 1 (set-set marks f 1 2) (second_fits s t here f small marks fit) after second near again
 
-      pub forks_once : (on : Bool) → on ≡ ltb (get_or after 0 0) 2 → on ≡ false → standing after ≡ add (standing tally) (fork_from (form_in t) s t i f marks)
+      pub forks_once : (on : Bool) → on ≡ goes_on after.course → on ≡ false → standing after ≡ add (standing tally) (fork_from (form_in t) s t i f marks)
       forks_once = read_once tally after first_forks
 
       -- A flag has no other value.
-      pub forks_twice : Flags ≡ form_in t → (second : List ℕ) → standing second ≡ add (standing after) (fork_from (form_in t) s t i g (set (set marks f 1) f 2)) → standing second ≡ add (standing tally) (fork_from (form_in t) s t i f marks)
+      pub forks_twice : Flags ≡ form_in t → (second : Tally) → standing second ≡ add (standing after) (fork_from (form_in t) s t i g (set (set marks f 1) f 2)) → standing second ≡ add (standing tally) (fork_from (form_in t) s t i f marks)
       forks_twice flags second again = read_flags tally after first_forks flags second (second_forks second again)
 
-      pub forks_all : (second third : List ℕ) → standing second ≡ add (standing after) (fork_from (form_in t) s t i g (set (set marks f 1) f 2)) → standing third ≡ add_higher (form_in t) s t i f (set (set marks f 1) f 2) (standing second)
+      pub forks_all : (second third : Tally) → standing second ≡ add (standing after) (fork_from (form_in t) s t i g (set (set marks f 1) f 2)) → standing third ≡ add_higher (form_in t) s t i f (set (set marks f 1) f 2) (standing second)
           → standing third ≡ add (standing tally) (fork_from (form_in t) s t i f marks)
       forks_all second third again = read_all tally after first_forks second third (second_forks second again)
 
@@ -315,16 +277,16 @@ module _ (s t : List ℕ) (here : AtHand (form_in t) s t) (i f : ℕ) (small : f
       first_walks : standing after ≡ add (standing tally) (value_read (form_in t) s t i f marks 0)
       first_walks = read_walks s t i f marks p a place action g next_above (set marks f 1) 0 refl (first_fits s t here f small marks fit) tally after far r follows walked
 
-      second_walks : (second : List ℕ) → standing second ≡ add (standing after) (met_from (form_in t) s t r (set (set marks f 1) f 2)) → standing second ≡ add (standing after) (value_read (form_in t) s t i f marks 1)
+      second_walks : (second : Tally) → standing second ≡ add (standing after) (met_from (form_in t) s t r (set (set marks f 1) f 2)) → standing second ≡ add (standing after) (value_read (form_in t) s t i f marks 1)
       second_walks second again = read_walks s t i f marks p a place action g next_above (set (set marks f 1) f 2) 1 (set-set marks f 1 2) (second_fits s t here f small marks fit) after second far r follows again
 
-      pub walks_once : (on : Bool) → on ≡ ltb (get_or after 0 0) 2 → on ≡ false → standing after ≡ add (standing tally) (fork_from (form_in t) s t i f marks)
+      pub walks_once : (on : Bool) → on ≡ goes_on after.course → on ≡ false → standing after ≡ add (standing tally) (fork_from (form_in t) s t i f marks)
       walks_once = read_once tally after first_walks
 
-      pub walks_twice : Flags ≡ form_in t → (second : List ℕ) → standing second ≡ add (standing after) (met_from (form_in t) s t r (set (set marks f 1) f 2)) → standing second ≡ add (standing tally) (fork_from (form_in t) s t i f marks)
+      pub walks_twice : Flags ≡ form_in t → (second : Tally) → standing second ≡ add (standing after) (met_from (form_in t) s t r (set (set marks f 1) f 2)) → standing second ≡ add (standing tally) (fork_from (form_in t) s t i f marks)
       walks_twice flags second again = read_flags tally after first_walks flags second (second_walks second again)
 
-      pub walks_all : (second third : List ℕ) → standing second ≡ add (standing after) (met_from (form_in t) s t r (set (set marks f 1) f 2)) → standing third ≡ add_higher (form_in t) s t i f (set (set marks f 1) f 2) (standing second)
+      pub walks_all : (second third : Tally) → standing second ≡ add (standing after) (met_from (form_in t) s t r (set (set marks f 1) f 2)) → standing third ≡ add_higher (form_in t) s t i f (set (set marks f 1) f 2) (standing second)
           → standing third ≡ add (standing tally) (fork_from (form_in t) s t i f marks)
       walks_all second third again = read_all tally after first_walks second third (second_walks second again)
 

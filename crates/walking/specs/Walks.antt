@@ -1,6 +1,5 @@
 -- The parts of the walk that the code walks, in the form that the notes say.
 use Rattle.std.specs.Prelude.{ℕ, ◌+◌, ◌-◌, List, [], ◌∷◌, get_or, set}
-use Rattle.meaning.specs.Limits
 use Rattle.meaning.specs.declared.Form.{Form}
 use Rattle.meaning.specs.Values.{numbers}
 use Rattle.meaning.specs.States.{State}

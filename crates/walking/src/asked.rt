@@ -10,7 +10,6 @@ ghost use Rattle.steps.specs.AtHand.{AtHand};
 ghost use Rattle.steps.specs.Steps.{form_in, does_as, after_as, tries_as, unknown_as, all_unknown, first_of, lacks_as, missed_as, values_as, Followed, Chosen};
 ghost use Rattle.walking.specs.Walks.{Fit};
 
-use finding::places::Found;
 use meaning::Form;
 use reading::marks::Marks;
 use reading::notes;
@@ -26,8 +25,7 @@ pub fn tried(s: &[u8], t: &Notes, a: usize, marks: &Marks) -> Tried
     requires fit { Fit s.now t.now marks.now }
     ensures { does_as (form_in t.now) s.now t.now a marks.now ≡ tries_as (form_in t.now) s.now t.now a marks.now result }
 {
-    let form = form_of(t);
-    trying::tried(form, s, t, a, marks)
+    trying::tried(form_of(t), s, t, a, marks)
 }
 
 // The state after an action that is not a sensing one and can be run.
@@ -38,8 +36,7 @@ pub fn after(s: &[u8], t: &Notes, a: usize, marks: &Marks) -> Marks
     requires marks_value { does_as (form_in t.now) s.now t.now a marks.now ≡ tries_as (form_in t.now) s.now t.now a marks.now Runs }
     ensures { result ≡ after_as (form_in t.now) s.now t.now a marks.now }
 {
-    let form = form_of(t);
-    trying::after(form, s, t, a, marks)
+    trying::after(form_of(t), s, t, a, marks)
 }
 
 // The action has a knowledge line.
@@ -48,8 +45,7 @@ pub fn is_sensing(s: &[u8], t: &Notes, a: usize) -> bool
     requires a_lt_actions { a < format.actions }
     ensures { result ≡ sensing (table_in (form_in t.now) s.now) a }
 {
-    let form = form_of(t);
-    sensing::is_sensing(form, s, t, a)
+    sensing::is_sensing(form_of(t), s, t, a)
 }
 
 // The first fluent from `from` up that the action senses and that is unknown; the limit of fluents where there is none.
@@ -59,8 +55,7 @@ pub fn next_unknown(s: &[u8], t: &Notes, a: usize, from: usize, marks: &Marks) -
     requires fit { Fit s.now t.now marks.now }
     ensures { result ≡ first_of (unknown_as (form_in t.now) s.now a marks.now from) }
 {
-    let form = form_of(t);
-    sensing::next_unknown(form, s, t, a, from, marks)
+    sensing::next_unknown(form_of(t), s, t, a, from, marks)
 }
 
 // The first of all that it senses and that is unknown.
@@ -70,8 +65,7 @@ pub fn first_unknown(s: &[u8], t: &Notes, a: usize, marks: &Marks) -> usize
     requires fit { Fit s.now t.now marks.now }
     ensures { result ≡ first_of (all_unknown (form_in t.now) s.now a marks.now) }
 {
-    let form = form_of(t);
-    sensing::first_unknown(form, s, t, a, marks)
+    sensing::first_unknown(form_of(t), s, t, a, marks)
 }
 
 // How many values a fluent has.
@@ -79,8 +73,7 @@ pub fn values_of(s: &[u8], t: &Notes, f: usize) -> usize
     requires { f < format.fluents }
     ensures { result ≡ values_as (form_in t.now) s.now f }
 {
-    let form = form_of(t);
-    trying::values_of(form, s, f)
+    trying::values_of(form_of(t), s, f)
 }
 
 // The position after item i.
@@ -89,40 +82,37 @@ pub fn follow(s: &[u8], t: &Notes, i: usize) -> usize
     requires i_bound { i < items_of (plan_in (form_in t.now) s.now t.now) }
     ensures { Followed (form_in t.now) s.now t.now i result }
 {
-    let form = form_of(t);
-    onward::follow(form, s, t, i)
+    onward::follow(form_of(t), s, t, i)
 }
 
 // Where the walk goes on from the branching that is item i: in the branch whose condition is known true.
-pub fn chosen(s: &[u8], t: &Notes, i: usize, marks: &Marks) -> Found
+pub fn chosen(s: &[u8], t: &Notes, i: usize, marks: &Marks) -> Option<usize>
     requires at_hand { AtHand (form_in t.now) s.now t.now }
     requires i_bound { i < items_of (plan_in (form_in t.now) s.now t.now) }
     requires i_value { get_or s.now (get_or t.now (0 + i) 0) 0 ≡ 255 }
     requires fit { Fit s.now t.now marks.now }
     ensures { Chosen (form_in t.now) s.now t.now i marks.now result }
 {
-    let mode = get(t, notes::MODE);
-    if mode == VALUES {
-        return onward::chosen(Form::Valued, s, t, i, marks);
+    if get(t, notes::MODE) == VALUES {
+        onward::chosen(Form::Valued, s, t, i, marks)
+    } else {
+        onward::chosen_flags(s, t, i, marks)
     }
-    onward::chosen_flags(s, t, i, marks)
 }
 
 // The first guard that a state lacks.
-pub fn lacking(s: &[u8], t: &Notes, marks: &Marks) -> Found
+pub fn lacking(s: &[u8], t: &Notes, marks: &Marks) -> Option<usize>
     requires { AtHand (form_in t.now) s.now t.now }
     ensures { result ≡ found (lacks_as (form_in t.now) s.now t.now marks.now) }
 {
-    let form = form_of(t);
-    goals::lacking(form, s, t, marks)
+    goals::lacking(form_of(t), s, t, marks)
 }
 
 // The first goal or whether entry that an end state misses.
-pub fn missed(s: &[u8], t: &Notes, marks: &Marks) -> Found
+pub fn missed(s: &[u8], t: &Notes, marks: &Marks) -> Option<usize>
     requires at_hand { AtHand (form_in t.now) s.now t.now }
     requires fit { Fit s.now t.now marks.now }
     ensures { result ≡ found (missed_as (form_in t.now) s.now t.now marks.now) }
 {
-    let form = form_of(t);
-    goals::missed(form, s, t, marks)
+    goals::missed(form_of(t), s, t, marks)
 }

@@ -1,4 +1,4 @@
-ghost use Rattle.std.specs.Prelude.{◌≡◌, ◌<◌, length, get_or, ltb};
+ghost use Rattle.std.specs.Prelude.{◌≡◌, true, ◌<◌, ltb};
 ghost use Rattle.meaning.specs.Tests.{both};
 ghost use Rattle.meaning.specs.Limits.{format};
 ghost use Rattle.meaning.specs.Refusals.{nowhere};
@@ -6,24 +6,22 @@ ghost use Rattle.reading.specs.Planned.{items_of};
 ghost use Rattle.steps.specs.Held.{plan_in};
 ghost use Rattle.steps.specs.AtHand.{AtHand};
 ghost use Rattle.steps.specs.Rests.{Position};
-ghost use Rattle.steps.specs.Steps.{form_in, values_as, step_in, judged_in, walk_from, met_from};
-ghost use Rattle.walking.specs.Standing.{add, standing, tally_slots, Going, Breaks};
+ghost use Rattle.steps.specs.Steps.{mode_in, form_in, refused_in, values_as, step_in, judged_in, walk_from, met_from};
+ghost use Rattle.walking.specs.Standing.{add, standing, number_of, stateless, goes_on, Going, Breaks};
 ghost use Rattle.walking.specs.Walks.{Fit, action_at, fork_from, add_higher};
 
 use super::asked::{
     after, chosen, first_unknown, follow, is_sensing, lacking, missed, next_unknown, tried,
     values_of,
 };
-use super::tally;
-use super::tally::{Tally, count_one, give_up, goes_on, note};
-use finding::places::Found;
+use super::tally::{Course, Tally};
 use parsing::bytes::wide;
 use parsing::limits;
 use reading::marks::Marks;
 use reading::notes;
 use reading::notes::{Notes, get};
 use steps::cases::Tried;
-use steps::trying::{VALUES, refused};
+use steps::trying::{TOO_WIDE, VALUES, refused};
 
 // The marks of a fluent's first two values, which every fluent has.
 const FIRST: u8 = 1;
@@ -38,11 +36,11 @@ fn breaks(s: &[u8], t: &Notes, marks: &Marks, tally: &mut Tally) -> bool
     ensures { Breaks ((step_in (form_in t.now) s.now t.now).lacks marks.now) marks.now tally.old result tally.new }
 {
     match lacking(s, t, marks) {
-        Found::At(p) => {
-            note(tally, tally::BROKEN, p, marks);
+        Some(p) => {
+            tally.note(Course::Broken, p, marks);
             true
         }
-        Found::Nowhere => false,
+        None => false,
     }
 }
 
@@ -53,17 +51,23 @@ fn judge_end(s: &[u8], t: &Notes, marks: &Marks, tally: &mut Tally)
     requires going { Going tally.old }
     ensures { standing tally.new ≡ add (standing tally.old) (judged_in (form_in t.now) s.now t.now marks.now) }
 {
-    count_one(tally);
-    if tally[0] == 0 {
-        match missed(s, t, marks) {
-            Found::At(p) => {
-                note(tally, tally::MISSED, p, marks);
-                return;
-            }
-            Found::Nowhere => {
-                return;
-            }
+    tally.count_one();
+    if let Course::Fine = tally.course {
+        if let Some(p) = missed(s, t, marks) {
+            tally.note(Course::Missed, p, marks);
         }
+    }
+}
+
+// What stops the walk at an action with too many readings or cases.
+fn too_many(t: &Notes) -> Course
+    ensures stateless { stateless result ≡ true }
+    ensures number { number_of result ≡ refused_in (mode_in t.now) }
+{
+    if refused(t) == TOO_WIDE {
+        Course::TooWide
+    } else {
+        Course::TooMany
     }
 }
 
@@ -79,12 +83,10 @@ pub fn walk(s: &[u8], t: &Notes, at: usize, marks: Marks, tally: &mut Tally)
     let mut i = at;
     let mut state = marks;
     while i < limits::ITEMS {
-        let broken = breaks(s, t, &state, tally);
-        if broken {
+        if breaks(s, t, &state, tally) {
             return;
         }
-        let slot = notes::ITEM_PLACE + i;
-        let p = get(t, slot);
+        let p = get(t, notes::ITEM_PLACE + i);
         if s[p] == limits::BRANCHING_BYTE {
             walk_branching(s, t, i, state, tally);
             return;
@@ -92,38 +94,32 @@ pub fn walk(s: &[u8], t: &Notes, at: usize, marks: Marks, tally: &mut Tally)
         let a = wide(s[p]);
         match tried(s, t, a, &state) {
             Tried::Runs => {
-                count_one(tally);
-                let on = goes_on(tally);
-                if on {
-                    let sensing = is_sensing(s, t, a);
-                    if sensing {
-                        let f = first_unknown(s, t, a, &state);
-                        if f < limits::FLUENTS {
-                            fork(s, t, i, f, state, tally);
-                            return;
-                        }
-                        i = follow(s, t, i);
-                        continue;
-                    }
-                    state = after(s, t, a, &state);
-                    i = follow(s, t, i);
-                    continue;
+                tally.count_one();
+                if !tally.goes_on() {
+                    return;
                 }
-                return;
+                if is_sensing(s, t, a) {
+                    let f = first_unknown(s, t, a, &state);
+                    if f < limits::FLUENTS {
+                        fork(s, t, i, f, state, tally);
+                        return;
+                    }
+                } else {
+                    state = after(s, t, a, &state);
+                }
+                i = follow(s, t, i);
             }
             Tried::Stuck => {
-                note(tally, tally::STUCK, p, &state);
+                tally.note(Course::Stuck, p, &state);
                 return;
             }
             Tried::Many => {
-                let number = refused(t);
-                give_up(tally, number, p);
+                tally.give_up(too_many(t), p);
                 return;
             }
         }
     }
-    let broken = breaks(s, t, &state, tally);
-    if broken {
+    if breaks(s, t, &state, tally) {
         return;
     }
     judge_end(s, t, &state, tally);
@@ -141,15 +137,10 @@ fn walk_branching(s: &[u8], t: &Notes, i: usize, marks: Marks, tally: &mut Tally
     ensures { standing tally.new ≡ add (standing tally.old) (walk_from (form_in t.now) s.now t.now i marks) }
 {
     match chosen(s, t, i, &marks) {
-        Found::At(at) => {
-            walk(s, t, at, marks, tally);
-            return;
-        }
-        Found::Nowhere => {
-            let slot = notes::ITEM_PLACE + i;
-            let p = get(t, slot);
-            note(tally, tally::STUCK, p, &marks);
-            return;
+        Some(at) => walk(s, t, at, marks, tally),
+        None => {
+            let p = get(t, notes::ITEM_PLACE + i);
+            tally.note(Course::Stuck, p, &marks);
         }
     }
 }
@@ -157,14 +148,9 @@ fn walk_branching(s: &[u8], t: &Notes, i: usize, marks: Marks, tally: &mut Tally
 // The walk goes on, and the fluent has a value above the one that this mark says.
 fn has_more(s: &[u8], t: &Notes, f: usize, mark: u8, tally: &Tally) -> bool
     requires { f < format.fluents }
-    ensures { result ≡ both (ltb (get_or tally.now 0 0) 2) (ltb mark (values_as (form_in t.now) s.now f)) }
+    ensures { result ≡ both (goes_on tally.now.course) (ltb mark (values_as (form_in t.now) s.now f)) }
 {
-    let on = goes_on(tally);
-    if on {
-        let last = values_of(s, t, f);
-        return wide(mark) < last;
-    }
-    false
+    tally.goes_on() && wide(mark) < values_of(s, t, f)
 }
 
 // The readings of fluent f by the values above the one that its mark says, which are all where it is unknown, and of the unknown ones above it that the action senses, which is item i; then what follows it.
@@ -175,32 +161,20 @@ fn higher_values(s: &[u8], t: &Notes, i: usize, f: usize, marks: Marks, tally: &
     requires i_bound_2 { action_at s.now t.now i < format.actions }
     requires f_lt_fluents { f < format.fluents }
     requires fit { Fit s.now t.now marks }
-    requires tally_len { length tally.old ≡ tally_slots }
     ensures { standing tally.new ≡ add_higher (form_in t.now) s.now t.now i f marks (standing tally.old) }
 {
     let mut state = marks;
-    let mut more = has_more(s, t, f, state[f], tally);
-    if more {
-        let slot = notes::ITEM_PLACE + i;
-        let p = get(t, slot);
-        let a = wide(s[p]);
-        let above = f + 1;
-        let g = next_unknown(s, t, a, above, &state);
+    let p = get(t, notes::ITEM_PLACE + i);
+    let a = wide(s[p]);
+    let g = next_unknown(s, t, a, f + 1, &state);
+    let at = follow(s, t, i);
+    while has_more(s, t, f, state[f], tally) {
+        state[f] += 1;
         if g < limits::FLUENTS {
-            while more {
-                state[f] += 1;
-                higher_values(s, t, i, g, state, tally);
-                more = has_more(s, t, f, state[f], tally);
-            }
-            return;
-        }
-        let at = follow(s, t, i);
-        while more {
-            state[f] += 1;
+            higher_values(s, t, i, g, state, tally);
+        } else {
             walk(s, t, at, state, tally);
-            more = has_more(s, t, f, state[f], tally);
         }
-        return;
     }
 }
 
@@ -215,39 +189,29 @@ fn fork(s: &[u8], t: &Notes, i: usize, f: usize, marks: Marks, tally: &mut Tally
     requires going { Going tally.old }
     ensures { standing tally.new ≡ add (standing tally.old) (fork_from (form_in t.now) s.now t.now i f marks) }
 {
-    let slot = notes::ITEM_PLACE + i;
-    let p = get(t, slot);
+    let p = get(t, notes::ITEM_PLACE + i);
     let a = wide(s[p]);
-    let above = f + 1;
     let mut state = marks;
     state[f] = FIRST;
-    let g = next_unknown(s, t, a, above, &state);
+    let g = next_unknown(s, t, a, f + 1, &state);
     if g < limits::FLUENTS {
         fork(s, t, i, g, state, tally);
-        let on = goes_on(tally);
-        if on {
+        if tally.goes_on() {
             state[f] = SECOND;
             fork(s, t, i, g, state, tally);
-            let mode = get(t, notes::MODE);
-            if mode == VALUES {
+            if get(t, notes::MODE) == VALUES {
                 higher_values(s, t, i, f, state, tally);
-                return;
             }
-            return;
         }
         return;
     }
     let at = follow(s, t, i);
     walk(s, t, at, state, tally);
-    let on = goes_on(tally);
-    if on {
+    if tally.goes_on() {
         state[f] = SECOND;
         walk(s, t, at, state, tally);
-        let mode = get(t, notes::MODE);
-        if mode == VALUES {
+        if get(t, notes::MODE) == VALUES {
             higher_values(s, t, i, f, state, tally);
-            return;
         }
-        return;
     }
 }

@@ -10,9 +10,10 @@ ghost use Rattle.meaning.specs.Schemes.{line_of};
 ghost use Rattle.steps.specs.Held.{plan_in, request_in};
 ghost use Rattle.steps.specs.AtHand.{AtHand, Marked};
 ghost use Rattle.steps.specs.Rests.{Position, rest_at};
-ghost use Rattle.writing.specs.Progress.{add, standing, Underway, cited, Cited};
+ghost use Rattle.writing.specs.Progress.{add, standing, Underway};
 ghost use Rattle.meaning.specs.declared.Form.TheVariants.{Flags};
 
+use super::cites::Cites;
 use super::rests::put_rest;
 use super::room::{put, put_known, put_number, put_part};
 use super::rule_bytes;
@@ -24,39 +25,24 @@ use reading::notes;
 use reading::notes::{Notes, get};
 
 // The number of lines that are there, and where they end.
-pub const PROGRESS_SLOTS: usize = 2;
-
-pub type Progress = [usize; PROGRESS_SLOTS];
-
-// Citations behind their number.
-pub const CITE_SLOTS: usize = 1 + limits::CITATIONS;
-
-pub type Cites = [u16; CITE_SLOTS];
-
-// What a slot of the citations holds, as the number that it is.
-pub fn number_of(x: u16) -> usize
-    ensures same { result ≡ x }
-    ensures below { result < 65536 }
-{
-    x as usize
+#[derive(Clone, Copy)]
+pub struct Progress {
+    pub lines: usize,
+    pub end: usize,
 }
 
 // The number of citations, and each in two bytes. It gives the place after them.
 fn put_cites(cites: &Cites, room: &mut [u8], q: usize) -> usize
-    requires cited { Cited cites.now }
     requires q_bound { q < 140737488355328 }
-    ensures after { result ≡ q + (1 + length (numbers_written (cited cites.now))) }
+    ensures after { result ≡ q + (1 + length (numbers_written cites.now)) }
     ensures within { result ≤ q + 129 }
-    ensures written { room.new ≡ sets room.old q (length (cited cites.now) ∷ numbers_written (cited cites.now)) }
+    ensures written { room.new ≡ sets room.old q (length cites.now ∷ numbers_written cites.now) }
 {
-    let count = number_of(cites[0]);
-    put(room, q, (count % 256) as u8);
+    let lines = cites.lines();
+    put(room, q, lines.len() as u8);
     let mut p = q + 1;
-    let mut i = 0;
-    while i < count {
-        i += 1;
-        let line = number_of(cites[i]);
-        put_number(room, p, line);
+    for line in lines {
+        put_number(room, p, usize::from(*line));
         p += 2;
     }
     p
@@ -71,9 +57,8 @@ fn put_uncited(marks: &Marks, rule: u8, room: &mut [u8], q: usize) -> usize
     ensures written { room.new ≡ sets room.old q (list_written (literals_of marks.now) ++ (rule ∷ 0 ∷ [])) }
 {
     let ruled = put_known(marks, room, q);
-    let counted = ruled + 1;
     put(room, ruled, rule);
-    put(room, counted, 0);
+    put(room, ruled + 1, 0);
     ruled + 2
 }
 
@@ -98,16 +83,13 @@ pub fn put_empty(marks: &Marks, room: &mut [u8], progress: &mut Progress)
     ensures stands { standing progress.new room.new ≡ add (standing progress.old room.old) (line_of marks.now done (knows (literals_of marks.now)) Limits.empty_rule [] ∷ []) }
     ensures going { Underway progress.new }
 {
-    if limits::LINES < progress[0] {
+    if limits::LINES < progress.lines {
         return;
     }
-    let q = progress[1];
-    let plan = put_known(marks, room, q);
-    let concluded = plan + 2;
+    let plan = put_known(marks, room, progress.end);
     put_number(room, plan, 0);
-    let end = put_uncited(marks, rule_bytes::EMPTY_RULE, room, concluded);
-    progress[0] += 1;
-    progress[1] = end;
+    progress.end = put_uncited(marks, rule_bytes::EMPTY_RULE, room, plan + 2);
+    progress.lines += 1;
 }
 
 // The line by rule 2 of one action, after which the second state is known.
@@ -118,18 +100,14 @@ pub fn put_action(a: u8, marks: &Marks, after: &Marks, room: &mut [u8], progress
     ensures stands { standing progress.new room.new ≡ add (standing progress.old room.old) (line_of marks.now (item (act 0 a) done) (knows (literals_of after.now)) Limits.action_rule [] ∷ []) }
     ensures going { Underway progress.new }
 {
-    if limits::LINES < progress[0] {
+    if limits::LINES < progress.lines {
         return;
     }
-    let q = progress[1];
-    let plan = put_known(marks, room, q);
-    let action = plan + 2;
-    let concluded = plan + 3;
+    let plan = put_known(marks, room, progress.end);
     put_number(room, plan, 1);
-    put(room, action, a);
-    let end = put_uncited(after, rule_bytes::ACTION_RULE, room, concluded);
-    progress[0] += 1;
-    progress[1] = end;
+    put(room, plan + 2, a);
+    progress.end = put_uncited(after, rule_bytes::ACTION_RULE, room, plan + 3);
+    progress.lines += 1;
 }
 
 // The line by a rule that concludes the goals, of what is left from a position on.
@@ -146,21 +124,17 @@ pub fn put_goals(
     requires at_hand { AtHand Flags s.now t.now }
     requires position { Position (plan_in Flags s.now t.now) at }
     requires marked { Marked marks.now }
-    requires cited { Cited cites.now }
     requires underway { Underway progress.old }
-    ensures stands { standing progress.new room.new ≡ add (standing progress.old room.old) (line_of marks.now (rest_at (plan_in Flags s.now t.now) at) (goals_of (request_in Flags s.now t.now)) rule (cited cites.now) ∷ []) }
+    ensures stands { standing progress.new room.new ≡ add (standing progress.old room.old) (line_of marks.now (rest_at (plan_in Flags s.now t.now) at) (goals_of (request_in Flags s.now t.now)) rule cites.now ∷ []) }
     ensures going { Underway progress.new }
 {
-    if limits::LINES < progress[0] {
+    if limits::LINES < progress.lines {
         return;
     }
-    let q = progress[1];
-    let plan = put_known(marks, room, q);
+    let plan = put_known(marks, room, progress.end);
     let concluded = put_rest(s, t, at, room, plan);
     let ruled = put_asked(s, t, room, concluded);
-    let cited = ruled + 1;
     put(room, ruled, rule);
-    let end = put_cites(cites, room, cited);
-    progress[0] += 1;
-    progress[1] = end;
+    progress.end = put_cites(cites, room, ruled + 1);
+    progress.lines += 1;
 }

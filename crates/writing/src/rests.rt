@@ -14,7 +14,6 @@ ghost use Rattle.meaning.specs.declared.Form.TheVariants.{Flags};
 use super::room::{put_number, put_part};
 use finding::branches::{next_item, next_place};
 use meaning::Form;
-use parsing::bytes::wide;
 use parsing::limits;
 use reading::notes;
 use reading::notes::{Notes, get};
@@ -26,21 +25,17 @@ fn item_end(s: &[u8], t: &Notes, i: usize) -> usize
     requires i_bound { i < items_of (plan_in Flags s.now t.now) }
     ensures { ItemEnds s.now t.now i result }
 {
-    let slot = notes::ITEM_PLACE + i;
-    let start = get(t, slot);
+    let start = get(t, notes::ITEM_PLACE + i);
     if s[start] != limits::BRANCHING_BYTE {
         return start + 1;
     }
-    let second = start + 1;
-    let mut left = wide(s[second]);
+    let branches = s[start + 1];
     let mut p = start + 2;
     let mut item = i + 1;
-    while 0 < left {
+    for _ in 0..branches {
         let q = next_place(Form::Flags, s, t, p, item);
-        let j = next_item(Form::Flags, s, t, p, item);
+        item = next_item(Form::Flags, s, t, p, item);
         p = q;
-        item = j;
-        left -= 1;
     }
     p
 }
@@ -67,18 +62,14 @@ fn put_items(s: &[u8], t: &Notes, at: usize, room: &mut [u8], q: usize) -> Put
     let mut p = q;
     let mut items = 0;
     while i < limits::ITEMS {
-        let slot = notes::ITEM_PLACE + i;
-        let start = get(t, slot);
+        let start = get(t, notes::ITEM_PLACE + i);
         let end = item_end(s, t, i);
         put_part(s, start, end, room, p);
         p += end - start;
         items += 1;
         i = follow(Form::Flags, s, t, i);
     }
-    Put {
-        end: p,
-        items: items,
-    }
+    Put { end: p, items }
 }
 
 // What is left from a position on: the number of its items, and the items. It gives the place after them.
@@ -90,8 +81,7 @@ pub fn put_rest(s: &[u8], t: &Notes, at: usize, room: &mut [u8], q: usize) -> us
     ensures within { result ≤ q + 2 + format.request * format.items }
     ensures written { room.new ≡ sets room.old q (plan_written (rest_at (plan_in Flags s.now t.now) at)) }
 {
-    let first = q + 2;
-    let put = put_items(s, t, at, room, first);
+    let put = put_items(s, t, at, room, q + 2);
     put_number(room, q, put.items);
     put.end
 }

@@ -38,17 +38,17 @@ rule_7-requires-clause-some_line c = search own_some
 pub returns-then-rule-eq-LOOK_RULE : goal.returns-then-rule-eq-LOOK_RULE
 returns-then-rule-eq-LOOK_RULE c = search by_look
 
-pub overflow_add-high : goal.overflow_add-high
-overflow_add-high c = search cites_fit
+pub overflow_add-l : goal.overflow_add-l
+overflow_add-l c = search cites_fit
 
-pub overflow_add-low : goal.overflow_add-low
-overflow_add-low c = search cites_fit_2
+pub overflow_add-l-2 : goal.overflow_add-l-2
+overflow_add-l-2 c = search cites_fit_2
 
-pub bounds-d-high : goal.bounds-d-high
-bounds-d-high c = search first_high
+pub bounds-d-l : goal.bounds-d-l
+bounds-d-l c = search first_high
 
-pub bounds-d-low : goal.bounds-d-low
-bounds-d-low c = search first_low
+pub bounds-d-l-2 : goal.bounds-d-l-2
+bounds-d-l-2 c = search first_low
 
 pub spot_of-cited-requires-clause-some_lines : goal.spot_of-cited-requires-clause-some_lines
 spot_of-cited-requires-clause-some_lines c = search lines_some
@@ -62,17 +62,17 @@ rule_4-requires c = let pre = c.requires in let citing = pre.cites_earlier in re
 pub returns-then-rule-eq-BRANCHING_RULE : goal.returns-then-rule-eq-BRANCHING_RULE
 returns-then-rule-eq-BRANCHING_RULE c = search by_branching
 
-pub overflow_add-next : goal.overflow_add-next
-overflow_add-next c = search cites_fit_3
+pub overflow_add-l-then-rule-eq-COMPOSITION_RULE : goal.overflow_add-l-then-rule-eq-COMPOSITION_RULE
+overflow_add-l-then-rule-eq-COMPOSITION_RULE c = search cites_fit_3
 
-pub overflow_add-last : goal.overflow_add-last
-overflow_add-last c = search cites_fit_4
+pub overflow_add-l-then-rule-eq-COMPOSITION_RULE-2 : goal.overflow_add-l-then-rule-eq-COMPOSITION_RULE-2
+overflow_add-l-then-rule-eq-COMPOSITION_RULE-2 c = search cites_fit_4
 
-pub bounds-d-next : goal.bounds-d-next
-bounds-d-next c = search second_high
+pub bounds-d-l-then-rule-eq-COMPOSITION_RULE : goal.bounds-d-l-then-rule-eq-COMPOSITION_RULE
+bounds-d-l-then-rule-eq-COMPOSITION_RULE c = search second_high
 
-pub bounds-d-last : goal.bounds-d-last
-bounds-d-last c = search second_low
+pub bounds-d-l-then-rule-eq-COMPOSITION_RULE-2 : goal.bounds-d-l-then-rule-eq-COMPOSITION_RULE-2
+bounds-d-l-then-rule-eq-COMPOSITION_RULE-2 c = search second_low
 
 pub spot_of-second-requires-clause-some_lines : goal.spot_of-second-requires-clause-some_lines
 spot_of-second-requires-clause-some_lines c = search lines_some

@@ -8,5 +8,5 @@ asks-requires-clause-some_stands c = search line_some
 pub returns-then-number-lines : goal.returns-then-number-lines
 returns-then-number-lines c = search named
 
-pub returns : goal.returns
-returns c = search not_named
+pub returns-else-number-lines : goal.returns-else-number-lines
+returns-else-number-lines c = search not_named

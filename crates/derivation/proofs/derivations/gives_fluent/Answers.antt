@@ -1,18 +1,19 @@
--- The five rules one after another.
-use Rattle.derivation.proofs.DerivationLaws.{fluent_by_7, fluent_by_8, fluent_by_10, fluent_by_11, fluent_by_12}
+-- The rules are told apart by their order.
+use native.Mathlib.Omega.{arith}
+use Rattle.derivation.proofs.DerivationLaws.{fluent_early, fluent_late, no_fluent}
 use Rattle.derivation.proofs.derivations.gives_fluent.Goals as goal
 
-pub returns-then-rule-eq-LOOK_RULE : goal.returns-then-rule-eq-LOOK_RULE
-returns-then-rule-eq-LOOK_RULE c = search fluent_by_7
+pub returns-in-7 : goal.returns-in-7
+returns-in-7 c = fluent_early _ (omega arith) (omega arith)
 
-pub returns-then-rule-eq-LITERAL_RULE : goal.returns-then-rule-eq-LITERAL_RULE
-returns-then-rule-eq-LITERAL_RULE c = search fluent_by_8
+pub returns-in-7-2 : goal.returns-in-7-2
+returns-in-7-2 c = fluent_late _ (omega arith) (omega arith)
 
-pub returns-then-rule-eq-SENSING_WHETHER_RULE : goal.returns-then-rule-eq-SENSING_WHETHER_RULE
-returns-then-rule-eq-SENSING_WHETHER_RULE c = search fluent_by_10
+pub returns-in_default : goal.returns-in_default
+returns-in_default c = no_fluent _ (λ a b. omega arith) (λ a b. omega arith)
 
-pub returns-then-rule-eq-COMPOSITION_WHETHER_RULE : goal.returns-then-rule-eq-COMPOSITION_WHETHER_RULE
-returns-then-rule-eq-COMPOSITION_WHETHER_RULE c = search fluent_by_11
+pub returns-in_default-2 : goal.returns-in_default-2
+returns-in_default-2 c = no_fluent _ (λ a b. omega arith) (λ a b. omega arith)
 
-pub returns : goal.returns
-returns c = search fluent_by_12
+pub returns-in_default-3 : goal.returns-in_default-3
+returns-in_default-3 c = no_fluent _ (λ a b. omega arith) (λ a b. omega arith)

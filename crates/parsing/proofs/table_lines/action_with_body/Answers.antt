@@ -1,9 +1,10 @@
 -- The body passes or is at fault, and the line with it.
+use borrow.Author.Rules.{rules}
 use Rattle.parsing.proofs.LineReaderLaws.{body_passed, body_fault}
 use Rattle.parsing.proofs.table_lines.action_with_body.Goals as goal
 
-pub returns-in-To : goal.returns-in-To
-returns-in-To c = search body_passed
+pub returns-in_err-after : goal.returns-in_err-after
+returns-in_err-after c = search (rules, body_fault)
 
-pub returns-in-Fault : goal.returns-in-Fault
-returns-in-Fault c = search body_fault
+pub returns : goal.returns
+returns c = search (rules, body_passed)

@@ -1,9 +1,10 @@
 -- Action, then body: the first fault is the line's.
+use borrow.Author.Rules.{rules}
 use Rattle.parsing.proofs.LineReaderLaws.{executability_whole, executability_action_fault}
 use Rattle.parsing.proofs.table_lines.executability_at.Goals as goal
 
-pub returns-in-Value : goal.returns-in-Value
-returns-in-Value c = search executability_whole
+pub returns-in_err-a : goal.returns-in_err-a
+returns-in_err-a c = search (rules, executability_action_fault)
 
-pub returns-in-Fault : goal.returns-in-Fault
-returns-in-Fault c = search executability_action_fault
+pub returns : goal.returns
+returns c = search (rules, executability_whole)

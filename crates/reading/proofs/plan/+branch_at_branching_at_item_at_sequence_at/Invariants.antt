@@ -1,5 +1,5 @@
 -- A loop's whole is at every step what the rest gives from the notes now. A branch is one branching less deep, so the cycle ends.
-use Rattle.std.proofs.Common.{◌+◌, ◌*◌}
+use Rattle.std.proofs.Common.{◌+◌, ◌-◌, ◌*◌}
 use Rattle.reading.proofs.NotingLaws.{Going}
 use Rattle.reading.proofs.BranchLaws.{branching_whole, branching_rest}
 use Rattle.reading.proofs.SequenceLaws.{sequence_whole, sequence_rest}
@@ -17,14 +17,8 @@ decreases-item_at l = l.deep * 4 + 1
 abbrev pub decreases-sequence_at : goal.decreases-sequence_at
 decreases-sequence_at l = l.deep * 4 + 2
 
-abbrev pub invariant-branching_at-loop-left : goal.invariant-branching_at-loop-left
-invariant-branching_at-loop-left l = Going l.s (branching_whole l.form l.n l.m l.deep l.s l.start l.i l.initial.t) (branching_rest l.form l.n l.m l.deep l.s l.start l.i l.initial.t l.left l.p l.met l.t) l.p l.met
+abbrev pub invariant-branching_at-loop : goal.invariant-branching_at-loop
+invariant-branching_at-loop l = Going l.s (branching_whole l.form l.n l.m l.deep l.s l.start l.i l.initial.t) (branching_rest l.form l.n l.m l.deep l.s l.start l.i l.initial.t (l.count - l.counter) l.p l.met l.t) l.p l.met
 
-abbrev pub decreases-branching_at-loop-left : goal.decreases-branching_at-loop-left
-decreases-branching_at-loop-left l = l.left
-
-abbrev pub invariant-sequence_at-loop-left : goal.invariant-sequence_at-loop-left
-invariant-sequence_at-loop-left l = Going l.s (sequence_whole l.form l.n l.m l.deep l.up l.s l.start l.before l.initial.t) (sequence_rest l.form l.n l.m l.deep l.up l.s l.before l.p l.met l.t l.left) l.p l.met
-
-abbrev pub decreases-sequence_at-loop-left : goal.decreases-sequence_at-loop-left
-decreases-sequence_at-loop-left l = l.left
+abbrev pub invariant-sequence_at-loop-i : goal.invariant-sequence_at-loop-i
+invariant-sequence_at-loop-i l = Going l.s (sequence_whole l.form l.n l.m l.deep l.up l.s l.start l.before l.initial.t) (sequence_rest l.form l.n l.m l.deep l.up l.s l.before l.p l.met l.t (l.count - l.i)) l.p l.met

@@ -4,28 +4,28 @@ use Rattle.reading.proofs.SectionLaws.{lines_start, lines_done, lines_fault, lin
 use Rattle.reading.proofs.sections.lines_from.Goals as goal
 
 pub loop-k-init : goal.loop-k-init
-loop-k-init c = search lines_start
+loop-k-init c = search (rules, lines_start)
 
-pub overflow_add-q : goal.overflow_add-q
-overflow_add-q c = search second_fits
-
-pub bounds-s-q : goal.bounds-s-q
-bounds-s-q c = search second_there
+pub returns-in_err-a : goal.returns-in_err-a
+returns-in_err-a c = search (rules, lines_fault)
 
 pub bounds-last-a : goal.bounds-last-a
-bounds-last-a c = search action_fits
+bounds-last-a c = search (rules, action_fits)
 
 pub note_line-requires : goal.note_line-requires
 note_line-requires c = search (rules, place_fits, action_fits, fluent_fits)
 
-pub bounds-last-a-in-Value : goal.bounds-last-a-in-Value
-bounds-last-a-in-Value c = search action_fits
-
 pub loop-k-preserved : goal.loop-k-preserved
-loop-k-preserved c = search lines_next
-
-pub returns-in-Fault : goal.returns-in-Fault
-returns-in-Fault c = search lines_fault
+loop-k-preserved c = search (rules, lines_next)
 
 pub returns : goal.returns
-returns c = search lines_done
+returns c = search (rules, lines_done)
+
+pub overflow_add-p : goal.overflow_add-p
+overflow_add-p c = search (rules, second_fits)
+
+pub bounds-s-p : goal.bounds-s-p
+bounds-s-p c = second_there _ _ _ _ _ _ _ _ _ c.line_at.ensures c.in_ok-a.was
+
+pub bounds-last-a-in-loop-k : goal.bounds-last-a-in-loop-k
+bounds-last-a-in-loop-k c = search (rules, action_fits)

@@ -6,7 +6,4 @@ use Rattle.reading.specs.Noted.{section_of, line_at, none_yet, lines_noted, noti
 use Rattle.reading.proofs.sections.lines_from.Given as goal
 
 abbrev pub invariant-loop-k : goal.invariant-loop-k
-invariant-loop-k l = noting (lines_noted (section_of l.c) 0 none_yet) (repeated (line_at l.form (section_of l.c) l.n l.m l.s) l.count l.start) l.initial.t ≡ noting (lines_noted (section_of l.c) l.k l.last) (repeated (line_at l.form (section_of l.c) l.n l.m l.s) (l.end - l.k) l.p) l.t
-
-abbrev pub decreases-loop-k : goal.decreases-loop-k
-decreases-loop-k l = l.end - l.k
+invariant-loop-k l = noting (lines_noted (section_of l.c) 0 none_yet) (repeated (line_at l.form (section_of l.c) l.n l.m l.s) l.count l.start) l.initial.t ≡ noting (lines_noted (section_of l.c) l.k l.last) (repeated (line_at l.form (section_of l.c) l.n l.m l.s) (l.k-end - l.k) l.p) l.t

@@ -6,14 +6,14 @@ use Rattle.steps.proofs.goals.missed.Goals as goal
 pub goal_missed-requires : goal.goal_missed-requires
 goal_missed-requires c = search (rules, goals_there)
 
-pub sequence_of-whether-requires : goal.sequence_of-whether-requires
-sequence_of-whether-requires c = search goals_there
+pub sequence_of-requires : goal.sequence_of-requires
+sequence_of-requires c = search goals_there
 
 pub first_missed-requires : goal.first_missed-requires
 first_missed-requires c = search whether_there
 
-pub returns-in-At : goal.returns-in-At
-returns-in-At c = search goal_missed
+pub returns-in-Some : goal.returns-in-Some
+returns-in-Some c = search goal_missed
 
-pub returns-in-Nowhere : goal.returns-in-Nowhere
-returns-in-Nowhere c = search whether_missed
+pub returns-in-None : goal.returns-in-None
+returns-in-None c = search whether_missed

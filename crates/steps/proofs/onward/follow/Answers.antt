@@ -2,8 +2,8 @@
 use Rattle.steps.proofs.OnwardLaws.{slot_fits, slot_there, goes_starts, goes_to, goes_fits, goes_inside, goes_less, goes_around}
 use Rattle.steps.proofs.onward.follow.Goals as goal
 
-pub overflow_add-slot : goal.overflow_add-slot
-overflow_add-slot c = search slot_fits
+pub overflow_add-i : goal.overflow_add-i
+overflow_add-i c = search slot_fits
 
 pub get-at-requires : goal.get-at-requires
 get-at-requires c = search slot_there
@@ -11,8 +11,8 @@ get-at-requires c = search slot_there
 pub loop-at-init : goal.loop-at-init
 loop-at-init c = search goes_starts
 
-pub overflow_add-next : goal.overflow_add-next
-overflow_add-next c = search goes_fits
+pub overflow_add-at : goal.overflow_add-at
+overflow_add-at c = search goes_fits
 
 pub get-at-requires-in-loop-at : goal.get-at-requires-in-loop-at
 get-at-requires-in-loop-at c = search goes_inside

@@ -3,11 +3,11 @@ use Rattle.steps.proofs.FormSteps.{hand_runs, valued_runs, valued_stuck}
 use borrow.Author.Rules.{rules}
 use Rattle.steps.proofs.trying.try_valued.Goals as goal
 
-pub can_be_run-runs-requires : goal.can_be_run-runs-requires
-can_be_run-runs-requires c = search (rules, hand_runs)
+pub can_be_run-requires : goal.can_be_run-requires
+can_be_run-requires c = search (rules, hand_runs)
 
-pub returns-then-runs : goal.returns-then-runs
-returns-then-runs c = search valued_runs
+pub returns-then-can_be_run : goal.returns-then-can_be_run
+returns-then-can_be_run c = search valued_runs
 
-pub returns : goal.returns
-returns c = search valued_stuck
+pub returns-else-can_be_run : goal.returns-else-can_be_run
+returns-else-can_be_run c = search valued_stuck

@@ -3,8 +3,8 @@ use Rattle.steps.proofs.HandLaws.{facts_here}
 use Rattle.verdicts.proofs.WalkedLaws.{hand_in, flags_first, judged_in_form}
 use Rattle.verdicts.proofs.walked.walk_plan.Goals as goal
 
-pub state_of-marks-requires : goal.state_of-marks-requires
-state_of-marks-requires c = search facts_here
+pub state_of-requires : goal.state_of-requires
+state_of-requires c = search facts_here
 
 pub walk_from-requires-clause-at_hand : goal.walk_from-requires-clause-at_hand
 walk_from-requires-clause-at_hand c = search hand_in

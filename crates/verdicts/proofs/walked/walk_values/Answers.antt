@@ -6,8 +6,8 @@ use Rattle.verdicts.proofs.walked.walk_values.Goals as goal
 pub bounds-request-0 : goal.bounds-request-0
 bounds-request-0 c = search byte_there
 
-pub overflow_add-facts : goal.overflow_add-facts
-overflow_add-facts c = search facts_fit
+pub overflow_add-wide : goal.overflow_add-wide
+overflow_add-wide c = search facts_fit
 
 pub first_state-marks-requires-clause-values_here : goal.first_state-marks-requires-clause-values_here
 first_state-marks-requires-clause-values_here c = search facts_there

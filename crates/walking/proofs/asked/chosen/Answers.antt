@@ -12,8 +12,8 @@ chosen-requires-clause-i_bound c = search (inside_there, form_values)
 pub chosen-requires-clause-marked_as : goal.chosen-requires-clause-marked_as
 chosen-requires-clause-marked_as c = search (marked_there, form_values)
 
-pub returns-then-mode-eq-VALUES : goal.returns-then-mode-eq-VALUES
-returns-then-mode-eq-VALUES c = search (chosen_back, form_values)
+pub returns-then-get-eq-VALUES : goal.returns-then-get-eq-VALUES
+returns-then-get-eq-VALUES c = search (chosen_back, form_values)
 
 pub chosen_flags-requires-clause-at_hand : goal.chosen_flags-requires-clause-at_hand
 chosen_flags-requires-clause-at_hand c = search (hand_there, form_flags)
@@ -24,5 +24,5 @@ chosen_flags-requires-clause-i_bound c = search (inside_there, form_flags)
 pub chosen_flags-requires-clause-marked_as : goal.chosen_flags-requires-clause-marked_as
 chosen_flags-requires-clause-marked_as c = search (marked_there, form_flags)
 
-pub returns : goal.returns
-returns c = search (chosen_back, form_flags)
+pub returns-else-get-eq-VALUES : goal.returns-else-get-eq-VALUES
+returns-else-get-eq-VALUES c = search (chosen_back, form_flags)

@@ -7,7 +7,7 @@ use Rattle.walking.specs.Standing.{standing}
 use Rattle.walking.specs.Walks.{add_higher}
 use Rattle.walking.proofs.FallLaws.{walk_measure, branching_measure, fork_measure, higher_measure}
 use Rattle.walking.proofs.WalkArms.{Walking}
-use Rattle.walking.proofs.ForkLaws.{to_read, Forking}
+use Rattle.walking.proofs.ForkLaws.{Forking}
 use Rattle.walking.proofs.walk.+fork_higher_values_walk_walk_branching.Given as goal
 
 abbrev pub decreases-fork : goal.decreases-fork
@@ -22,17 +22,11 @@ decreases-walk l = walk_measure l.at
 abbrev pub decreases-walk_branching : goal.decreases-walk_branching
 decreases-walk_branching l = branching_measure l.i
 
-abbrev pub invariant-higher_values-loop-more : goal.invariant-higher_values-loop-more
-invariant-higher_values-loop-more l = Forking l.s l.t l.i l.f l.initial.state (add_higher (form_in l.t) l.s l.t l.i l.f l.initial.state (standing l.initial.tally)) l.tally l.state l.more
+abbrev pub invariant-higher_values-loop-state : goal.invariant-higher_values-loop-state
+invariant-higher_values-loop-state l = Forking l.s l.t l.i l.f l.initial.state (add_higher (form_in l.t) l.s l.t l.i l.f l.initial.state (standing l.initial.tally)) l.tally l.state
 
-abbrev pub decreases-higher_values-loop-more : goal.decreases-higher_values-loop-more
-decreases-higher_values-loop-more l = to_read l.more (values_as (form_in l.t) l.s l.f - get_or l.state l.f 0)
-
-abbrev pub invariant-higher_values-loop-more-then-more : goal.invariant-higher_values-loop-more-then-more
-invariant-higher_values-loop-more-then-more l = Forking l.s l.t l.i l.f l.initial.state (add_higher (form_in l.t) l.s l.t l.i l.f l.initial.state (standing l.initial.tally)) l.tally l.state l.more
-
-abbrev pub decreases-higher_values-loop-more-then-more : goal.decreases-higher_values-loop-more-then-more
-decreases-higher_values-loop-more-then-more l = to_read l.more (values_as (form_in l.t) l.s l.f - get_or l.state l.f 0)
+abbrev pub decreases-higher_values-loop-state : goal.decreases-higher_values-loop-state
+decreases-higher_values-loop-state l = values_as (form_in l.t) l.s l.f - get_or l.state l.f 0
 
 abbrev pub invariant-walk-loop-i : goal.invariant-walk-loop-i
 invariant-walk-loop-i l = Walking l.s l.t l.at l.initial.state l.initial.tally l.tally l.i l.state
