@@ -9,12 +9,14 @@ ghost use Rattle.valuing.specs.Valuing.{ValuedMarks};
 ghost use Rattle.steps.specs.AtHand.{AtHand, MarkedAs};
 ghost use Rattle.steps.specs.Steps.{met_as, bound_as, knows_as, lacks_as, missed_as};
 
+use super::looks::Looks;
+use super::request::Request;
 use finding::branches::sequence_of;
 use meaning::Form;
 use parsing::bytes::{two, wide};
 use reading::marks::{Marks, Test, holds};
 use reading::notes;
-use reading::notes::{Notes, get};
+use reading::notes::get;
 use valuing::states::known;
 
 // What is asked at the end: that a literal is known, or that it is known whether a fluent is true.
@@ -35,7 +37,7 @@ fn met(asked: Asked, marks: &Marks, x: usize) -> bool
 }
 
 // The first entry of the list at p that is not met.
-fn first_missed(asked: Asked, marks: &Marks, s: &[u8], p: usize) -> Option<usize>
+pub(crate) fn first_missed(asked: Asked, marks: &Marks, s: &[u8], p: usize) -> Option<usize>
     requires { ListHere (bound_as asked) s.now p }
     ensures { result ≡ found (first_missed (met_as asked marks.now) (placed (p + 1) (listed s.now p))) }
 {
@@ -48,7 +50,7 @@ fn first_missed(asked: Asked, marks: &Marks, s: &[u8], p: usize) -> Option<usize
 }
 
 // The first literal of values of the list at p that is not known true.
-fn first_value_missed(s: &[u8], marks: &Marks, p: usize) -> Option<usize>
+pub(crate) fn first_value_missed(s: &[u8], marks: &Marks, p: usize) -> Option<usize>
     requires values_here { ValuesHere s.now p }
     requires valued_marks { ValuedMarks s.now marks.now }
     ensures { result ≡ found (first_missed (Value.known (literals_in s.now) marks.now) (placed_twos (p + 1) (listed_as Valued s.now p))) }
@@ -62,39 +64,32 @@ fn first_value_missed(s: &[u8], marks: &Marks, p: usize) -> Option<usize>
     None
 }
 
-// The first goal of the list at p that is not known true.
-fn goal_missed(form: Form, s: &[u8], marks: &Marks, p: usize) -> Option<usize>
-    requires literals_here { LiteralsHere form s.now p }
-    requires marked_as { MarkedAs form s.now marks.now }
-    ensures { result ≡ found (first_missed (knows_as form s.now marks.now) (placed_as form (p + 1) (listed_as form s.now p))) }
-{
-    match form {
-        Form::Flags => first_missed(Asked::Goal, marks, s, p),
-        Form::Valued => first_value_missed(s, marks, p),
-    }
-}
-
 // The first guard that a state lacks. Where the notes have no place of guards there are none.
-pub fn lacking(form: Form, s: &[u8], t: &Notes, marks: &Marks) -> Option<usize>
-    requires { AtHand form s.now t.now }
-    ensures { result ≡ found (lacks_as form s.now t.now marks.now) }
+pub fn lacking<S: Looks>(r: &Request<S>, marks: &Marks) -> Option<usize>
+    requires { AtHand S.FORM r.now.bytes.now r.now.notes.now }
+    ensures { result ≡ found (lacks_as S.FORM r.now.bytes.now r.now.notes.now marks.now) }
 {
-    let guards = get(t, notes::GUARDS);
+    let guards = get(r.notes, notes::GUARDS);
     if guards == 0 {
         return None;
     }
-    first_missed(Asked::Goal, marks, s, guards)
+    first_missed(Asked::Goal, marks, r.bytes, guards)
 }
 
 // The first goal or whether entry that an end state misses.
-pub fn missed(form: Form, s: &[u8], t: &Notes, marks: &Marks) -> Option<usize>
-    requires at_hand { AtHand form s.now t.now }
-    requires marked_as { MarkedAs form s.now marks.now }
-    ensures { result ≡ found (missed_as form s.now t.now marks.now) }
+pub fn missed<S: Looks>(r: &Request<S>, marks: &Marks) -> Option<usize>
+    requires at_hand { AtHand S.FORM r.now.bytes.now r.now.notes.now }
+    requires marked_as { MarkedAs S.FORM r.now.bytes.now marks.now }
+    ensures { result ≡ found (missed_as S.FORM r.now.bytes.now r.now.notes.now marks.now) }
 {
-    let goals = get(t, notes::GOALS);
-    match goal_missed(form, s, marks, goals) {
+    let goals = get(r.notes, notes::GOALS);
+    match S::goal_missed(r.bytes, marks, goals) {
         Some(p) => Some(p),
-        None => first_missed(Asked::Whether, marks, s, sequence_of(form, s, goals)),
+        None => first_missed(
+            Asked::Whether,
+            marks,
+            r.bytes,
+            sequence_of(S::FORM, r.bytes, goals),
+        ),
     }
 }

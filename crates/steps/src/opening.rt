@@ -9,11 +9,13 @@ ghost use Rattle.steps.specs.Flags.{flagged, flagged_at, HasBodies, places_of, O
 ghost use Rattle.steps.specs.Opened.{Opened};
 ghost use Rattle.meaning.specs.declared.Form.TheVariants.{Flags};
 
+use super::request::Request;
 use parsing::bytes::wide;
 use parsing::limits;
+use parsing::shapes::OfFlags;
 use reading::marks::Marks;
 use reading::notes;
-use reading::notes::{Notes, first_line, line_place, next_line};
+use reading::notes::{first_line, line_place, next_line};
 
 // The open fluents of an action, ascending, behind their number, which is one more than the limit where there are more.
 pub const OPEN_SLOTS: usize = 1 + limits::OPEN;
@@ -35,37 +37,41 @@ fn flag_body(s: &[u8], p: usize, marks: &Marks, flags: &mut Marks)
 
 // Those of the bodies of the action's lines in one section, each so many bytes behind its line's place.
 fn flag_lines(
-    s: &[u8],
-    t: &Notes,
+    r: &Request<OfFlags>,
     lines: usize,
     behind: usize,
     a: usize,
     marks: &Marks,
     flags: &mut Marks,
 )
-    requires at_hand { AtHand Flags s.now t.now }
+    requires at_hand { AtHand Flags r.now.bytes.now r.now.notes.now }
     requires has_bodies { HasBodies lines behind }
     requires a_lt_actions { a < format.actions }
-    ensures { flags.new ≡ flagged_at s.now marks.now behind (places_of lines s.now a) flags.old }
+    ensures { flags.new ≡ flagged_at r.now.bytes.now marks.now behind (places_of lines r.now.bytes.now a) flags.old }
 {
-    let mut k = first_line(t, lines, a);
+    let mut k = first_line(r.notes, lines, a);
     while 0 < k {
-        flag_body(s, line_place(t, lines, k) + behind, marks, flags);
-        k = next_line(t, lines, k);
+        flag_body(
+            r.bytes,
+            line_place(r.notes, lines, k) + behind,
+            marks,
+            flags,
+        );
+        k = next_line(r.notes, lines, k);
     }
 }
 
 // Those of all bodies of the action, and no others.
-fn open_flags(s: &[u8], t: &Notes, a: usize, marks: &Marks) -> Marks
-    requires at_hand { AtHand Flags s.now t.now }
+fn open_flags(r: &Request<OfFlags>, a: usize, marks: &Marks) -> Marks
+    requires at_hand { AtHand Flags r.now.bytes.now r.now.notes.now }
     requires a_lt_actions { a < format.actions }
     requires marked { Marked marks.now }
-    ensures { OpenFlags (table_in Flags s.now) a marks.now result }
+    ensures { OpenFlags (table_in Flags r.now.bytes.now) a marks.now result }
 {
     let mut flags = [0u8; limits::FLUENTS];
     // An effect has its literal between its action and its body.
-    flag_lines(s, t, notes::EFFECTS, 2, a, marks, &mut flags);
-    flag_lines(s, t, notes::EXECUTABILITY, 1, a, marks, &mut flags);
+    flag_lines(r, notes::EFFECTS, 2, a, marks, &mut flags);
+    flag_lines(r, notes::EXECUTABILITY, 1, a, marks, &mut flags);
     flags
 }
 
@@ -89,12 +95,12 @@ fn gathered(flags: &Marks) -> Open
 }
 
 // The open fluents of the action.
-pub fn opened(s: &[u8], t: &Notes, a: usize, marks: &Marks) -> Open
-    requires at_hand { AtHand Flags s.now t.now }
+pub fn opened(r: &Request<OfFlags>, a: usize, marks: &Marks) -> Open
+    requires at_hand { AtHand Flags r.now.bytes.now r.now.notes.now }
     requires a_lt_actions { a < format.actions }
     requires marked { Marked marks.now }
-    ensures { Opened (open_fluents (table_in Flags s.now) a marks.now) result }
+    ensures { Opened (open_fluents (table_in Flags r.now.bytes.now) a marks.now) result }
 {
-    let flags = open_flags(s, t, a, marks);
+    let flags = open_flags(r, a, marks);
     gathered(&flags)
 }

@@ -18,8 +18,8 @@ next_line-k-requires-clause-k_lt_line_numbers c = search line_few
 pub overflow_add-p : goal.overflow_add-p
 overflow_add-p c = search effect_one_fits
 
-pub bounds-s-p : goal.bounds-s-p
-bounds-s-p c = search effect_one_there
+pub bounds-r-p : goal.bounds-r-p
+bounds-r-p c = search effect_one_there
 
 pub bounds-next-f : goal.bounds-next-f
 bounds-next-f c = search effect_fluent

@@ -3,43 +3,46 @@ use borrow.Author.Rules.{rules}
 use Rattle.steps.proofs.onward.chosen.Goals as goal
 
 pub overflow_add-i : goal.overflow_add-i
-overflow_add-i c = search place_fits
+overflow_add-i g c = search place_fits
 
 pub get-start-requires : goal.get-start-requires
-get-start-requires c = search place_there
+get-start-requires g c = search place_there
 
 pub overflow_add-start : goal.overflow_add-start
-overflow_add-start c = search second_fits
+overflow_add-start g c = search second_fits
 
-pub bounds-s-start : goal.bounds-s-start
-bounds-s-start c = search second_there
+pub bounds-r-start : goal.bounds-r-start
+bounds-r-start g c = search second_there
 
 pub overflow_add-p : goal.overflow_add-p
-overflow_add-p c = search first_fits
+overflow_add-p g c = search first_fits
 
 pub overflow_add-item : goal.overflow_add-item
-overflow_add-item c = search first_item_fits
+overflow_add-item g c = search first_item_fits
 
 pub loop-init : goal.loop-init
-loop-init c = search choosing_starts
+loop-init g c = search choosing_starts
 
 pub is_known-requires : goal.is_known-requires
-is_known-requires c = search (rules, choosing_condition)
+is_known-requires g c = search (rules, choosing_condition)
 
 pub into-requires-clause-branch_here : goal.into-requires-clause-branch_here
-into-requires-clause-branch_here c = search choosing_branch
+into-requires-clause-branch_here g c = search choosing_branch
 
 pub returns-then-is_known : goal.returns-then-is_known
-returns-then-is_known c = search chosen_at
+returns-then-is_known g c = search chosen_at
 
 pub next_place-requires : goal.next_place-requires
-next_place-requires c = search choosing_branch
+next_place-requires g c = rw c.FORM.ensures (search choosing_branch)
 
 pub next_item-requires : goal.next_item-requires
-next_item-requires c = search choosing_branch
+next_item-requires g c = rw c.FORM-in-loop.ensures (search choosing_branch)
 
 pub loop-preserved : goal.loop-preserved
-loop-preserved c = search choosing_next
+loop-preserved g c =
+    let place = rw c.FORM.ensures at c.next_place.ensures in
+    let item = rw c.FORM-in-loop.ensures at c.next_item.ensures in
+    search choosing_next
 
 pub returns : goal.returns
-returns c = search chosen_none
+returns g c = search chosen_none

@@ -3,4 +3,4 @@ use Rattle.steps.proofs.OnwardLaws.{Choosing}
 use Rattle.steps.proofs.onward.chosen.Given as goal
 
 abbrev pub invariant-loop : goal.invariant-loop
-invariant-loop l = Choosing l.form l.s l.t l.i l.marks (l.end - l.counter) l.p l.item
+invariant-loop g l = Choosing g.S.Shape.FORM l.r.bytes.now l.r.notes.now l.i l.marks (l.end - l.counter) l.p l.item

@@ -3,7 +3,7 @@ use Rattle.steps.proofs.OnwardLaws.{into_empty, into_item}
 use Rattle.steps.proofs.onward.into.Goals as goal
 
 pub returns-then-empty : goal.returns-then-empty
-returns-then-empty c = search into_empty
+returns-then-empty g c = let place = rw c.FORM.ensures at c.sequence_of.ensures in search into_empty
 
 pub returns-else-empty : goal.returns-else-empty
-returns-else-empty c = search into_item
+returns-else-empty g c = let place = rw c.FORM.ensures at c.sequence_of.ensures in search into_item

@@ -6,7 +6,7 @@ use Rattle.steps.proofs.FlagLaws.{Flagging}
 use Rattle.steps.proofs.opening.flag_lines.Given as goal
 
 abbrev pub invariant-loop-k : goal.invariant-loop-k
-invariant-loop-k l = Flagging l.s l.t l.lines l.behind l.marks l.flags (flagged_at l.s l.marks l.behind (places_of l.lines l.s l.a) l.initial.flags) l.k
+invariant-loop-k l = Flagging l.r.bytes.now l.r.notes.now l.lines l.behind l.marks l.flags (flagged_at l.r.bytes.now l.marks l.behind (places_of l.lines l.r.bytes.now l.a) l.initial.flags) l.k
 
 abbrev pub decreases-loop-k : goal.decreases-loop-k
 decreases-loop-k l = to_go l.k

@@ -3,4 +3,4 @@ use Rattle.steps.proofs.LookAs.{Sought}
 use Rattle.steps.proofs.sensing.next_unknown.Given as goal
 
 abbrev pub invariant-loop-f : goal.invariant-loop-f
-invariant-loop-f l = Sought l.s l.t l.a l.marks l.from l.f
+invariant-loop-f g l = Sought l.r.bytes.now l.r.notes.now l.a l.marks l.from l.f

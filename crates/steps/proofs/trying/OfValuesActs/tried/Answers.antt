@@ -1,7 +1,7 @@
 -- The table's step runs the action exactly where it can be run.
 use Rattle.steps.proofs.FormSteps.{hand_runs, valued_runs, valued_stuck}
 use borrow.Author.Rules.{rules}
-use Rattle.steps.proofs.trying.try_valued.Goals as goal
+use Rattle.steps.proofs.trying.OfValuesActs.tried.Goals as goal
 
 pub can_be_run-requires : goal.can_be_run-requires
 can_be_run-requires c = search (rules, hand_runs)
