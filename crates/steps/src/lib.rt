@@ -2,6 +2,7 @@
 
 #![tactic(auto)]
 
+pub mod request; // a request at hand, as a type
 pub mod actions; // whether an action can be run by what is known, and the state after it
 pub mod opening; // the open fluents of an action
 pub mod cases; // whether an action can be run by cases, and the state after it
