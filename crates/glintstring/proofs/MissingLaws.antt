@@ -107,7 +107,7 @@ module _ (s : List ℕ) (place : ℕ) (state : List ℕ) where
 module _ (s t : List ℕ) (here : AtHand Flags s t) (a : ℕ) (marks : State) (r : Runs) (is : r ≡ asked (table_in Flags s) a marks) where
   named_small : (p : ℕ) → LineOf (table_in Flags s) a p → p < 65536
   named_small p of =
-      let ends = (run_stands s (table_in Flags s) here.table_end (sections s t here) of.0 of.1).1.ends in
+      let ends = (run_stands s (table_in Flags s) here.table.end (sections s t here) of.0 of.1).1.ends in
       let at = of.3 in
       let short = here.short in
       omega (arith, ends, at, short)

@@ -50,11 +50,11 @@ module _ (form : Form) (s marks : List ℕ) (marked : MarkedAs form s marks) whe
 module _ (s t : List ℕ) (here : AtHand Valued s t) where
   pub hand_effects : ValueEffects s t
   unfolding effect_places
-  hand_effects = record { order = here.effects; line = effect_stands s (table_in Valued s) here.table_end (sections s t here) }
+  hand_effects = record { order = here.effects; line = effect_stands s (table_in Valued s) here.table.end (sections s t here) }
 
   pub hand_runs : ValueRuns s t
   unfolding run_places
-  hand_runs = record { order = here.runs; line = body_stands s (table_in Valued s) here.table_end (sections s t here) }
+  hand_runs = record { order = here.runs; line = body_stands s (table_in Valued s) here.table.end (sections s t here) }
 
   pub hand_values : FewValues s
   hand_values = counted_values Valued s refl (sections s t here).values

@@ -17,7 +17,6 @@ use reading::notes::{first_line, line_place, next_line};
 
 // The line of the action that is short by the fewest literals, the earliest of equals, where none allows it.
 fn nearest(r: &Request<OfFlags>, a: usize, marks: &Marks) -> Runs
-    requires at_hand { AtHand Flags r.now.bytes.now r.now.notes.now }
     requires a_lt_actions { a < format.actions }
     ensures { result ≡ nearest (known marks.now) (executability_of (table_in Flags r.now.bytes.now) a) }
 {
@@ -42,7 +41,6 @@ fn nearest(r: &Request<OfFlags>, a: usize, marks: &Marks) -> Runs
 
 // Whether the action can be run: the first of its lines that allows it, or else the nearest. Only where none allows it are literals counted.
 pub fn ask(r: &Request<OfFlags>, a: usize, marks: &Marks) -> Runs
-    requires at_hand { AtHand Flags r.now.bytes.now r.now.notes.now }
     requires a_lt_actions { a < format.actions }
     ensures { result ≡ asked (table_in Flags r.now.bytes.now) a marks.now }
 {
@@ -59,7 +57,6 @@ pub fn ask(r: &Request<OfFlags>, a: usize, marks: &Marks) -> Runs
 
 // Some line allows it.
 pub fn can_be_run(r: &Request<OfFlags>, a: usize, marks: &Marks) -> bool
-    requires at_hand { AtHand Flags r.now.bytes.now r.now.notes.now }
     requires a_lt_actions { a < format.actions }
     ensures { result ≡ can_be_run (table_in Flags r.now.bytes.now) a marks.now }
 {
@@ -72,7 +69,6 @@ pub fn can_be_run(r: &Request<OfFlags>, a: usize, marks: &Marks) -> bool
 // The state after an action that is not a sensing one and can be run. Each effect in turn tells what it gives or undoes what it may, and that
 // is final: no contradiction was found (16), so what one effect tells no other may undo. A body is looked at only where the mark could change.
 pub fn state_after(r: &Request<OfFlags>, a: usize, marks: &Marks) -> Marks
-    requires at_hand { AtHand Flags r.now.bytes.now r.now.notes.now }
     requires a_lt_actions { a < format.actions }
     requires marked { Marked marks.now }
     requires marks_value { can_be_run (table_in Flags r.now.bytes.now) a marks.now ≡ true }

@@ -30,7 +30,6 @@ pub enum Tried {
 
 // The action can be run in each filling of the open fluents from number i up.
 fn runs_in_each(r: &Request<OfFlags>, a: usize, held: &Open, i: usize, marks: Marks) -> bool
-    requires at_hand { AtHand Flags r.now.bytes.now r.now.notes.now }
     requires a_lt_actions { a < format.actions }
     requires filling { Filling held.now i marks }
     ensures { result ≡ each_of (can_be_run (table_in Flags r.now.bytes.now) a) (fillings (drop i (open_in held.now)) marks) }
@@ -66,7 +65,6 @@ fn shared(one: &Marks, other: &Marks) -> Marks
 
 // What the states after the action share, which is run in each filling of the open fluents from number i up.
 fn after_in_each(r: &Request<OfFlags>, a: usize, held: &Open, i: usize, marks: Marks) -> Marks
-    requires at_hand { AtHand Flags r.now.bytes.now r.now.notes.now }
     requires a_lt_actions { a < format.actions }
     requires filling { Filling held.now i marks }
     requires marks_value { each_of (can_be_run (table_in Flags r.now.bytes.now) a) (fillings (drop i (open_in held.now)) marks) ≡ true }
@@ -87,7 +85,6 @@ fn after_in_each(r: &Request<OfFlags>, a: usize, held: &Open, i: usize, marks: M
 
 // The action is tried by cases. Where it can be run by what is known, no case is looked at.
 pub fn try_cases(r: &Request<OfFlags>, a: usize, marks: &Marks) -> Tried
-    requires at_hand { AtHand Flags r.now.bytes.now r.now.notes.now }
     requires a_lt_actions { a < format.actions }
     requires marked { Marked marks.now }
     ensures { cases_does (table_in Flags r.now.bytes.now) a marks.now ≡ tried_as 1 (table_in Flags r.now.bytes.now) a marks.now result }
@@ -104,7 +101,6 @@ pub fn try_cases(r: &Request<OfFlags>, a: usize, marks: &Marks) -> Tried
 
 // The state after an action that is not a sensing one and can be run by cases.
 pub fn after_cases(r: &Request<OfFlags>, a: usize, marks: &Marks) -> Marks
-    requires at_hand { AtHand Flags r.now.bytes.now r.now.notes.now }
     requires a_lt_actions { a < format.actions }
     requires marked { Marked marks.now }
     requires marks_value { too_many (table_in Flags r.now.bytes.now) a marks.now ≡ false }

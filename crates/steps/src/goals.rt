@@ -66,7 +66,6 @@ pub(crate) fn first_value_missed(s: &[u8], marks: &Marks, p: usize) -> Option<us
 
 // The first guard that a state lacks. Where the notes have no place of guards there are none.
 pub fn lacking<S: Looks>(r: &Request<S>, marks: &Marks) -> Option<usize>
-    requires { AtHand S.FORM r.now.bytes.now r.now.notes.now }
     ensures { result ≡ found (lacks_as S.FORM r.now.bytes.now r.now.notes.now marks.now) }
 {
     let guards = get(r.notes, notes::GUARDS);
@@ -78,7 +77,6 @@ pub fn lacking<S: Looks>(r: &Request<S>, marks: &Marks) -> Option<usize>
 
 // The first goal or whether entry that an end state misses.
 pub fn missed<S: Looks>(r: &Request<S>, marks: &Marks) -> Option<usize>
-    requires at_hand { AtHand S.FORM r.now.bytes.now r.now.notes.now }
     requires marked_as { MarkedAs S.FORM r.now.bytes.now marks.now }
     ensures { result ≡ found (missed_as S.FORM r.now.bytes.now r.now.notes.now marks.now) }
 {

@@ -30,7 +30,6 @@ pub fn start_of(items: usize) -> usize
 
 // The position after item i: the next item of its sequence, or else what follows the branchings that end with it.
 pub fn follow<S: Shape>(r: &Request<S>, i: usize) -> usize
-    requires at_hand { AtHand S.FORM r.now.bytes.now r.now.notes.now }
     requires i_bound { i < items_of (plan_in S.FORM r.now.bytes.now r.now.notes.now) }
     ensures { Followed S.FORM r.now.bytes.now r.now.notes.now i result }
 {
@@ -43,7 +42,6 @@ pub fn follow<S: Shape>(r: &Request<S>, i: usize) -> usize
 
 // Where the branch begins that has its condition at p and `item` items before it; with no item of its own, after branching i.
 fn into<S: Shape>(r: &Request<S>, i: usize, p: usize, item: usize) -> usize
-    requires at_hand { AtHand S.FORM r.now.bytes.now r.now.notes.now }
     requires i_bound { i < items_of (plan_in S.FORM r.now.bytes.now r.now.notes.now) }
     requires branch_here { BranchHere S.FORM r.now.bytes.now p item }
     ensures { Into S.FORM r.now.bytes.now r.now.notes.now i p item result }
@@ -57,7 +55,6 @@ fn into<S: Shape>(r: &Request<S>, i: usize, p: usize, item: usize) -> usize
 
 // Where the walk goes on from the branching that is item i: in the branch whose condition is known true.
 pub fn chosen<S: Looks>(r: &Request<S>, i: usize, marks: &Marks) -> Option<usize>
-    requires at_hand { AtHand S.FORM r.now.bytes.now r.now.notes.now }
     requires i_bound { i < items_of (plan_in S.FORM r.now.bytes.now r.now.notes.now) }
     requires i_value { get_or r.now.bytes.now (get_or r.now.notes.now (0 + i) 0) 0 ≡ 255 }
     requires marked_as { MarkedAs S.FORM r.now.bytes.now marks.now }

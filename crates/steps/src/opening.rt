@@ -44,7 +44,6 @@ fn flag_lines(
     marks: &Marks,
     flags: &mut Marks,
 )
-    requires at_hand { AtHand Flags r.now.bytes.now r.now.notes.now }
     requires has_bodies { HasBodies lines behind }
     requires a_lt_actions { a < format.actions }
     ensures { flags.new ≡ flagged_at r.now.bytes.now marks.now behind (places_of lines r.now.bytes.now a) flags.old }
@@ -63,7 +62,6 @@ fn flag_lines(
 
 // Those of all bodies of the action, and no others.
 fn open_flags(r: &Request<OfFlags>, a: usize, marks: &Marks) -> Marks
-    requires at_hand { AtHand Flags r.now.bytes.now r.now.notes.now }
     requires a_lt_actions { a < format.actions }
     requires marked { Marked marks.now }
     ensures { OpenFlags (table_in Flags r.now.bytes.now) a marks.now result }
@@ -96,7 +94,6 @@ fn gathered(flags: &Marks) -> Open
 
 // The open fluents of the action.
 pub fn opened(r: &Request<OfFlags>, a: usize, marks: &Marks) -> Open
-    requires at_hand { AtHand Flags r.now.bytes.now r.now.notes.now }
     requires a_lt_actions { a < format.actions }
     requires marked { Marked marks.now }
     ensures { Opened (open_fluents (table_in Flags r.now.bytes.now) a marks.now) result }

@@ -16,7 +16,6 @@ use reading::notes::{get, is_noted};
 
 // The action has a knowledge line.
 pub fn is_sensing<S: Shape>(r: &Request<S>, a: usize) -> bool
-    requires at_hand { AtHand S.FORM r.now.bytes.now r.now.notes.now }
     requires a_lt_actions { a < format.actions }
     ensures { result ≡ sensing (table_in S.FORM r.now.bytes.now) a }
 {
@@ -25,7 +24,6 @@ pub fn is_sensing<S: Shape>(r: &Request<S>, a: usize) -> bool
 
 // The action has a knowledge line for the fluent.
 pub fn looks_at(r: &Request<OfFlags>, a: usize, f: usize) -> bool
-    requires at_hand { AtHand Flags r.now.bytes.now r.now.notes.now }
     requires a_lt_actions { a < format.actions }
     requires f_lt_fluents { f < format.fluents }
     ensures { result ≡ senses (knowledge_of (table_in Flags r.now.bytes.now) a) f }
@@ -35,7 +33,6 @@ pub fn looks_at(r: &Request<OfFlags>, a: usize, f: usize) -> bool
 
 // The first fluent from `from` up that the action senses and that is unknown; the limit of fluents where there is none.
 pub fn next_unknown<S: Shape>(r: &Request<S>, a: usize, from: usize, marks: &Marks) -> usize
-    requires at_hand { AtHand S.FORM r.now.bytes.now r.now.notes.now }
     requires a_lt_actions { a < format.actions }
     requires marked_as { MarkedAs S.FORM r.now.bytes.now marks.now }
     ensures { result ≡ first_of (unknown_as S.FORM r.now.bytes.now a marks.now from) }
@@ -50,7 +47,6 @@ pub fn next_unknown<S: Shape>(r: &Request<S>, a: usize, from: usize, marks: &Mar
 
 // The first of all that it senses and that is unknown.
 pub fn first_unknown<S: Shape>(r: &Request<S>, a: usize, marks: &Marks) -> usize
-    requires at_hand { AtHand S.FORM r.now.bytes.now r.now.notes.now }
     requires a_lt_actions { a < format.actions }
     requires marked_as { MarkedAs S.FORM r.now.bytes.now marks.now }
     ensures { result ≡ first_of (all_unknown S.FORM r.now.bytes.now a marks.now) }
@@ -61,7 +57,6 @@ pub fn first_unknown<S: Shape>(r: &Request<S>, a: usize, marks: &Marks) -> usize
 
 // More of the fluents that it senses are unknown than a derivation has readings for (FORMAT 24.4). They are counted no further than that.
 pub fn is_too_wide(r: &Request<OfFlags>, a: usize, marks: &Marks) -> bool
-    requires at_hand { AtHand Flags r.now.bytes.now r.now.notes.now }
     requires a_lt_actions { a < format.actions }
     requires marked { Marked marks.now }
     ensures { result ≡ too_wide (table_in Flags r.now.bytes.now) a marks.now }

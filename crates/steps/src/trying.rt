@@ -55,7 +55,6 @@ pub fn mode_of(t: &Notes) -> Mode
 
 // The action is tried by what is known, unless it is too wide (FORMAT 24.16).
 fn try_narrow(r: &Request<OfFlags>, a: usize, marks: &Marks) -> Tried
-    requires at_hand { AtHand Flags r.now.bytes.now r.now.notes.now }
     requires a_lt_actions { a < format.actions }
     requires marked { Marked marks.now }
     ensures { narrow_does (table_in Flags r.now.bytes.now) a marks.now ≡ tried_as 2 (table_in Flags r.now.bytes.now) a marks.now result }
@@ -71,7 +70,6 @@ fn try_narrow(r: &Request<OfFlags>, a: usize, marks: &Marks) -> Tried
 
 // Whether an action of flags can be run, in the mode of the walk.
 fn try_flags(r: &Request<OfFlags>, a: usize, marks: &Marks) -> Tried
-    requires at_hand { AtHand Flags r.now.bytes.now r.now.notes.now }
     requires a_lt_actions { a < format.actions }
     requires marked { Marked marks.now }
     ensures { does_in (mode_in r.now.notes.now) (table_in Flags r.now.bytes.now) a marks.now ≡ tried_as (mode_in r.now.notes.now) (table_in Flags r.now.bytes.now) a marks.now result }
@@ -99,7 +97,6 @@ pub fn refused(t: &Notes) -> u32
 
 // The state after an action of flags that is not a sensing one and can be run.
 fn after_flags(r: &Request<OfFlags>, a: usize, marks: &Marks) -> Marks
-    requires at_hand { AtHand Flags r.now.bytes.now r.now.notes.now }
     requires a_lt_actions { a < format.actions }
     requires marked { Marked marks.now }
     requires marks_value { does_in (mode_in r.now.notes.now) (table_in Flags r.now.bytes.now) a marks.now ≡ tried_as (mode_in r.now.notes.now) (table_in Flags r.now.bytes.now) a marks.now Runs }
@@ -125,14 +122,12 @@ pub fn form_of(t: &Notes) -> Form
 pub trait Acts: Looks {
     // Whether an action can be run.
     fn tried(r: &Request<Self>, a: usize, marks: &Marks) -> Tried
-        requires at_hand { AtHand Self.FORM r.now.bytes.now r.now.notes.now }
         requires a_lt_actions { a < format.actions }
         requires marked_as { MarkedAs Self.FORM r.now.bytes.now marks.now }
         ensures { does_as Self.FORM r.now.bytes.now r.now.notes.now a marks.now ≡ tries_as Self.FORM r.now.bytes.now r.now.notes.now a marks.now result };
 
     // The state after an action that is not a sensing one and can be run.
     fn after(r: &Request<Self>, a: usize, marks: &Marks) -> Marks
-        requires at_hand { AtHand Self.FORM r.now.bytes.now r.now.notes.now }
         requires a_lt_actions { a < format.actions }
         requires marked_as { MarkedAs Self.FORM r.now.bytes.now marks.now }
         requires marks_value { does_as Self.FORM r.now.bytes.now r.now.notes.now a marks.now ≡ tries_as Self.FORM r.now.bytes.now r.now.notes.now a marks.now Runs }

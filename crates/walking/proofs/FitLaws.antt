@@ -39,7 +39,7 @@ few_as Valued s t here f = (hand_values s t here).each f
 
 many_as : (form : Form) (s t : List ℕ) → AtHand form s t → (f : ℕ) → 2 ≤ values_as form s f
 many_as Flags s t here f = omega arith
-many_as Valued s t here f = two_values s (table_in Valued s) here.table_end here.table f
+many_as Valued s t here f = two_values s (table_in Valued s) here.table.end here.table.is f
 
 -- A fluent is read by its values in ascending order.
 pub readings_first : (form : Form) (s : List ℕ) (f : ℕ) (fs : List ℕ) (marks : State)

@@ -9,7 +9,7 @@ pub state_after-requires-clause-few_values : goal.state_after-requires-clause-fe
 state_after-requires-clause-few_values c = search hand_values
 
 pub state_after-requires-clause-s_value : goal.state_after-requires-clause-s_value
-state_after-requires-clause-s_value c = c.requires.at_hand.no_contradiction
+state_after-requires-clause-s_value c = c.args.r.now.at_hand.no_contradiction
 
 pub state_after-requires-clause-marks_value : goal.state_after-requires-clause-marks_value
 state_after-requires-clause-marks_value c = search valued_can
