@@ -6,10 +6,10 @@ use mathlib.Core.Path.{◌≡◌, refl, sym, ◌∙◌, ap, subst}
 use mathlib.Core.Bool.{true, false}
 use mathlib.Core.List.{List, map}
 use lib.ListN.{length, get_or}
-use lib.Dec.{eqb, ltb}
+use lib.Dec.{ltb}
 use mir.Syntax.{w64}
 use mir.Val.{Fits}
-use borrow.Author.Tests.{eq-eqb, ltb-false}
+use borrow.Author.Tests.{ltb-false}
 use Rattle.meaning.specs.declared.Answer.{Answer}
 use Rattle.meaning.specs.Tests.{those_of}
 use Rattle.meaning.specs.Limits
@@ -17,26 +17,25 @@ use Rattle.meaning.specs.Limits.{format}
 use Rattle.meaning.specs.Reading.{literals_in}
 use Rattle.meaning.specs.Values.{numbers, values_of, fits}
 use Rattle.meaning.specs.ValueStates.{mark_left}
-use Rattle.meaning.specs.States.{State, state_of}
+use Rattle.meaning.specs.States.{State}
 use Rattle.meaning.specs.Walk.{no_state, in_state, End, fine, missed, stopped, Walked}
 use Rattle.meaning.specs.Judging.{ended, within}
 use Rattle.meaning.proofs.TestLaws.{by-test, clash, pick_true, pick_false}
 use Rattle.reading.specs.Noted.{items_slot}
-use Rattle.reading.specs.Listed.{listed, listed_as, ValuesHere}
+use Rattle.reading.specs.Listed.{listed_as, ValuesHere}
 use Rattle.steps.specs.AtHand.{AtHand, MarkedAs}
 use Rattle.steps.specs.Rests.{start}
-use Rattle.steps.specs.Steps.{mode_in, values_mode, form_in, first_in, met_from, walk_held}
+use Rattle.steps.specs.Steps.{first_in, met_from, walk_held}
 use Rattle.steps.proofs.HandLaws.{starts, facts_here}
-use Rattle.steps.proofs.FirstLaws.{first_flags, first_valued, walks_first}
+use Rattle.steps.proofs.FirstLaws.{first_valued, walks_first}
 use Rattle.walking.specs.declared.tally.Tally.{Tally}
 use Rattle.walking.specs.declared.tally.Course.{Course}
 use Rattle.walking.specs.declared.tally.Course.TheVariants.{Fine, Missed, Stuck, Broken, TooWide, TooMany, Spent}
 use Rattle.walking.specs.Standing.{Standing, spent, so_far, spend, add, stands, standing}
-use Rattle.walking.specs.Walks.{Fit}
 use Rattle.verdicts.specs.Telling.{told, is_spent, Tallied}
 use Rattle.verdicts.proofs.MarkedLaws.{first_as}
 use Rattle.meaning.specs.declared.Form.{Form}
-use Rattle.meaning.specs.declared.Form.TheVariants.{Flags, Valued}
+use Rattle.meaning.specs.declared.Form.TheVariants.{Valued}
 
 -- STANDINGS.
 so_far≢spent : {l : ℕ} {e : End State} → so_far l e ≡ spent → ⊥
@@ -113,37 +112,15 @@ module _ (form : Form) (s t : List ℕ) (here : AtHand form s t) (items at : ℕ
       → record { answer = answer; state = left } ≡ within lent budget (walk_held form s t)
   plan_judged lent left answer says = says ∙ ap (told lent budget) stands_so ∙ told_within budget (walk_held form s t) lent
 
-pub first_fits : (s t : List ℕ) (marks : State) → marks ≡ first_in (form_in t) s → Fit s t marks
-first_fits s t marks is = record { marked = subst (MarkedAs (form_in t) s) (sym is) (first_as (form_in t) s) }
+pub first_fits : (form : Form) (s marks : State) → marks ≡ first_in form s → MarkedAs form s marks
+first_fits form s marks is = subst (MarkedAs form s) (sym is) (first_as form s)
 
--- THE FORM that it goes by is that of its mode.
-pub flags_mode : (t : List ℕ) (mode : ℕ) → mode_in t ≡ mode → eqb mode values_mode ≡ false → form_in t ≡ Flags
-unfolding form_in
-flags_mode t mode is other = pick_false _ _ _ (ap (λ (m : ℕ). eqb m values_mode) is ∙ other)
-
-pub plain_mode : (t : List ℕ) → mode_in t ≡ 0 → form_in t ≡ Flags
-plain_mode t is = flags_mode t 0 is refl
-
-pub values_there : (t : List ℕ) → mode_in t ≡ values_mode → form_in t ≡ Valued
-unfolding form_in
-values_there t is = pick_true _ _ _ (eq-eqb (mode_in t) values_mode is)
-
-pub hand_in : (form : Form) (s t : List ℕ) → AtHand form s t → form_in t ≡ form → AtHand (form_in t) s t
-hand_in form s t here is = subst (λ (f : Form). AtHand f s t) (sym is) here
-
-pub flags_first : (s t : List ℕ) → AtHand Flags s t → form_in t ≡ Flags → (marks : State) → marks ≡ state_of format (listed s 2) → marks ≡ first_in (form_in t) s
-flags_first s t here is marks state = first_flags s t here marks state ∙ ap (λ (f : Form). first_in f s) (sym is)
-
-pub valued_first : (s t : List ℕ) → AtHand Valued s t → form_in t ≡ Valued → (n : ℕ) → n ≡ get_or s 0 0 → (marks : State)
-    → marks ≡ map (λ (f : ℕ). mark_left (those_of (fits (literals_in s) (listed_as Valued s (2 + n)) f) (values_of (literals_in s) f))) (numbers 0 format.state) → marks ≡ first_in (form_in t) s
-valued_first s t here is n byte marks state =
+-- THE FIRST STATE of a request with values.
+pub valued_first : (s t : List ℕ) → AtHand Valued s t → (n : ℕ) → n ≡ get_or s 0 0 → (marks : State)
+    → marks ≡ map (λ (f : ℕ). mark_left (those_of (fits (literals_in s) (listed_as Valued s (2 + n)) f) (values_of (literals_in s) f))) (numbers 0 format.state) → marks ≡ first_in Valued s
+valued_first s t here n byte marks state =
     first_valued s t here marks
     (state ∙ ap (λ (k : ℕ). map (λ (f : ℕ). mark_left (those_of (fits (literals_in s) (listed_as Valued s (2 + k)) f) (values_of (literals_in s) f))) (numbers 0 format.state)) byte)
-    ∙ ap (λ (f : Form). first_in f s) (sym is)
-
-pub judged_in_form : (form : Form) (s t : List ℕ) → form_in t ≡ form → (lent left : List ℕ) (budget : ℕ) (answer : Answer)
-    → record { answer = answer; state = left } ≡ within lent budget (walk_held (form_in t) s t) → record { answer = answer; state = left } ≡ within lent budget (walk_held form s t)
-judged_in_form form s t is lent left budget answer says = says ∙ ap (λ (f : Form). within lent budget (walk_held f s t)) is
 
 -- The facts of a request with values stand behind the numbers of its values.
 pub facts_there : (s t : List ℕ) → AtHand Valued s t → (n : ℕ) → n ≡ get_or s 0 0 → ValuesHere s (2 + n)

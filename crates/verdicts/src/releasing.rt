@@ -21,6 +21,7 @@ use meaning::{Answer, Form};
 use parsing::bytes::{count_at, wide};
 use parsing::faults::{Fault, Refusal};
 use parsing::limits;
+use parsing::shapes::OfFlags;
 use reading::notes;
 use reading::notes::{Notes, get};
 use reading::requests::{request_at, table_at};
@@ -68,7 +69,7 @@ fn answer_plan(file: &[u8], t: &Notes, budget: u32) -> Answer
     match overlap(Form::Flags, file, t, items) {
         None => {
             let mut state = [0u8; limits::FLUENTS];
-            walk_plan(file, t, &mut state, budget)
+            walk_plan::<OfFlags>(file, t, &mut state, budget)
         }
         Some(p) => refused(Refusal::NotExclusive.at(p), answers::THE_REQUEST),
     }

@@ -1,5 +1,4 @@
 pub mod StandingLaws
-pub mod AskedLaws
 pub mod FitLaws
 pub mod FallLaws
 pub mod WalkArms

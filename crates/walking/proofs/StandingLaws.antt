@@ -3,10 +3,11 @@
 use Prim.Native.Nat.{ℕ, ◌+◌, ◌-◌, ◌≤◌, ◌<◌}
 use native.Mathlib.Omega.{arith}
 use mathlib.Core.Path.{◌≡◌, refl, sym, ◌∙◌, ap}
-use mathlib.Core.Bool.{true, false}
+use mathlib.Core.Bool.{Bool, true, false}
 use mathlib.Core.Logic.{◌⊎◌, ⊎_elim}
 use lib.Dec.{ltb}
 use borrow.Author.Tests.{ltb-true, ltb-false, lt-ltb, le-ltb}
+use Rattle.meaning.specs.Tests.{both}
 use Rattle.meaning.specs.Refusals
 use Rattle.meaning.specs.Refusals.{nowhere, at}
 use Rattle.meaning.specs.States.{State}
@@ -222,3 +223,12 @@ on_other Broken nothing something = refl
 on_other TooWide nothing something = refl
 on_other TooMany nothing something = refl
 on_other Spent nothing something = refl
+
+-- WHETHER THERE IS MORE TO READ.
+pub more_on : (on : Bool) (c : Course) → on ≡ goes_on c → on ≡ true → (wide m last v : ℕ) → wide ≡ m → last ≡ v → ltb wide last ≡ both (goes_on c) (ltb m v)
+unfolding both
+more_on on c says yes-on wide m last v is e = rw (sym says, yes-on, is, e)
+
+pub more_over : (on : Bool) (c : Course) → on ≡ goes_on c → on ≡ false → (w : Bool) → on ≡ both (goes_on c) w
+unfolding both
+more_over on c says no-more w = rw (sym says, no-more)

@@ -3,7 +3,7 @@ use Rattle.walking.proofs.WalkArms.{breaks_noted, breaks_none}
 use Rattle.walking.proofs.walk.breaks.Goals as goal
 
 pub returns-in-Some : goal.returns-in-Some
-returns-in-Some c = search breaks_noted
+returns-in-Some g c = let asked = c.lacking.ensures in search breaks_noted
 
 pub returns-in-None : goal.returns-in-None
-returns-in-None c = search breaks_none
+returns-in-None g c = let asked = c.lacking.ensures in search breaks_none

@@ -3,10 +3,10 @@ use Rattle.walking.proofs.WalkArms.{judged_missed, judged_fine, judged_before}
 use Rattle.walking.proofs.walk.judge_end.Goals as goal
 
 pub returns-in-Some : goal.returns-in-Some
-returns-in-Some c = search judged_missed
+returns-in-Some g c = let asked = c.missed.ensures in search judged_missed
 
 pub returns-in_default-missed : goal.returns-in_default-missed
-returns-in_default-missed c = search judged_fine
+returns-in_default-missed g c = let asked = c.missed.ensures in search judged_fine
 
 pub returns-in_default : goal.returns-in_default
-returns-in_default c = search judged_before
+returns-in_default g c = search judged_before
