@@ -7,6 +7,7 @@ use reading::notes::Notes;
 use std::marker::PhantomData;
 
 // A request at hand: bytes that hold one of this form, and the notes that lead to its lines and through its plan.
+#[derive(Drop)]
 pub struct Request<'a, S: Shape> {
     pub bytes: &'a [u8],
     pub notes: &'a Notes,

@@ -9,7 +9,6 @@ ghost use Rattle.reading.specs.Planned.{outcome_met};
 ghost use Rattle.finding.specs.Places.{found};
 ghost use Rattle.finding.specs.TablesHere.{table_in, TableHere};
 ghost use Rattle.steps.specs.Held.{guards_in, request_in};
-ghost use Rattle.steps.specs.AtHand.{AtHand};
 ghost use Rattle.steps.specs.Steps.{mode_in};
 ghost use Rattle.verdicts.specs.Releasing.{opening_noted, Counted, OpenedHere, with_answer, with_unreached, past_table};
 ghost use Rattle.meaning.specs.declared.Form.TheVariants.{Flags};
@@ -27,6 +26,7 @@ use reading::notes::{Notes, get};
 use reading::requests::{request_at, table_at};
 use refusing::refusal_18::overlap;
 use refusing::settled::table_refused;
+use steps::request::Request;
 
 // A row has four numbers for each plan.
 pub const ROW_NUMBERS: usize = 4;
@@ -59,17 +59,16 @@ fn byte_after(n: usize, m: usize, file: &[u8], plans: usize, start: usize) -> Op
 }
 
 // What the walk call answers of the plan at hand: 18, or how its walk ended. The state concerned is handed to nobody.
-fn answer_plan(file: &[u8], t: &Notes, budget: u32) -> Answer
-    requires at_hand { AtHand Flags file.now t.now }
-    requires t_value { guards_in file.now t.now ≡ [] }
-    requires t_value_2 { mode_in t.now ≡ 0 }
-    ensures { result ≡ plan_answer format budget (got (request_in Flags file.now t.now) 0) }
+fn answer_plan(r: &Request<OfFlags>, budget: u32) -> Answer
+    requires guards { guards_in r.now.bytes.now r.now.notes.now ≡ [] }
+    requires mode { mode_in r.now.notes.now ≡ 0 }
+    ensures { result ≡ plan_answer format budget (got (request_in Flags r.now.bytes.now r.now.notes.now) 0) }
 {
-    let items = get(t, notes::ITEMS);
-    match overlap(Form::Flags, file, t, items) {
+    let items = get(r.notes, notes::ITEMS);
+    match overlap(Form::Flags, r.bytes, r.notes, items) {
         None => {
             let mut state = [0u8; limits::FLUENTS];
-            walk_plan::<OfFlags>(file, t, &mut state, budget)
+            walk_plan(r, &mut state, budget)
         }
         Some(p) => refused(Refusal::NotExclusive.at(p), answers::THE_REQUEST),
     }
@@ -125,7 +124,7 @@ fn answer_plans(
     for k in 0..plans {
         match request_at(Form::Flags, n, m, file, p, t) {
             Ok(after) => {
-                let answer = answer_plan(file, t, budget);
+                let answer = answer_plan(&Request::of(file, t), budget);
                 put_answer(row, k, answer);
                 p = after;
             }

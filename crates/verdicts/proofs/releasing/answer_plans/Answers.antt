@@ -10,23 +10,23 @@ loop-k-init c = search (rules, answering_starts)
 pub request_at-requires-clause-counted : goal.request_at-requires-clause-counted
 request_at-requires-clause-counted c = search (rules, counted_flags)
 
-pub answer_plan-answer-requires-clause-at_hand : goal.answer_plan-answer-requires-clause-at_hand
-answer_plan-answer-requires-clause-at_hand c = search (rules, answering_hand)
+pub of-requires : goal.of-requires
+of-requires c = search (rules, answering_hand)
 
-pub answer_plan-answer-requires-clause-t_value : goal.answer_plan-answer-requires-clause-t_value
-answer_plan-answer-requires-clause-t_value c = search (rules, answering_unguarded)
+pub answer_plan-answer-requires-clause-guards : goal.answer_plan-answer-requires-clause-guards
+answer_plan-answer-requires-clause-guards c = rw (c.of.ensures.bytes, c.of.ensures.notes) (search (rules, answering_unguarded))
 
-pub answer_plan-answer-requires-clause-t_value_2 : goal.answer_plan-answer-requires-clause-t_value_2
-answer_plan-answer-requires-clause-t_value_2 c = search (rules, answering_known)
+pub answer_plan-answer-requires-clause-mode : goal.answer_plan-answer-requires-clause-mode
+answer_plan-answer-requires-clause-mode c = rw c.of.ensures.notes (search (rules, answering_known))
 
 pub put_answer-requires-clause-k_in_bounds : goal.put_answer-requires-clause-k_in_bounds
 put_answer-requires-clause-k_in_bounds c = search (rules, answering_room)
 
 pub put_answer-requires-clause-place_bound : goal.put_answer-requires-clause-place_bound
-put_answer-requires-clause-place_bound c = search (rules, answering_small)
+put_answer-requires-clause-place_bound c = let given = rw (c.of.ensures.bytes, c.of.ensures.notes) at c.answer_plan-answer.ensures in search (rules, answering_small)
 
 pub loop-k-preserved : goal.loop-k-preserved
-loop-k-preserved c = search (rules, answering_next)
+loop-k-preserved c = let given = rw (c.of.ensures.bytes, c.of.ensures.notes) at c.answer_plan-answer.ensures in search (rules, answering_next)
 
 pub put_answer-requires-in-Err-clause-k_in_bounds : goal.put_answer-requires-in-Err-clause-k_in_bounds
 put_answer-requires-in-Err-clause-k_in_bounds c = search (rules, answering_room)

@@ -3,8 +3,8 @@ use Rattle.steps.proofs.FormSteps.{hand_values}
 use Rattle.verdicts.proofs.WalkedLaws.{byte_there, facts_fit, facts_there, valued_first}
 use Rattle.verdicts.proofs.walked.OfValuesWalked.first_state.Goals as goal
 
-pub bounds-request-0 : goal.bounds-request-0
-bounds-request-0 c = search byte_there
+pub bounds-r-0 : goal.bounds-r-0
+bounds-r-0 c = search byte_there
 
 pub overflow_add-wide : goal.overflow_add-wide
 overflow_add-wide c = search facts_fit
