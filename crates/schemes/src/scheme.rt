@@ -9,7 +9,7 @@ ghost use Rattle.meaning.specs.Walk.{Verified};
 ghost use Rattle.meaning.specs.Schemes.{line_of, derivation_of, derivation_bytes, narrow_walk_of};
 ghost use Rattle.reading.specs.Planned.{items_of};
 ghost use Rattle.steps.specs.Held.{table_in, plan_in, request_in};
-ghost use Rattle.steps.specs.AtHand.{AtHand, Marked};
+ghost use Rattle.steps.specs.AtHand.{Marked};
 ghost use Rattle.steps.specs.Rests.{Position, rest_at};
 ghost use Rattle.writing.specs.Progress.{Underway};
 ghost use Rattle.schemes.specs.Narrow.{NarrowFrom, lines_at, fluents_from, NarrowReadings, readings_at, Acts};
@@ -17,14 +17,15 @@ ghost use Rattle.schemes.specs.Put.{Put, ReadingsPut};
 ghost use Rattle.schemes.specs.Sizes.{Lined, Measured};
 ghost use Rattle.meaning.specs.declared.Form.TheVariants.{Flags};
 
-use meaning::Form;
 use parsing::bytes::wide;
 use parsing::limits;
+use parsing::shapes::OfFlags;
 use reading::marks::{Marks, state_of};
 use reading::notes;
-use reading::notes::{Notes, get};
+use reading::notes::get;
 use steps::actions::state_after;
 use steps::onward::{chosen, follow, start_of};
+use steps::request::Request;
 use steps::sensing::{first_unknown, is_sensing, next_unknown};
 use writing::cites::Cites;
 use writing::lines::{Progress, put_action, put_empty, put_goals};
@@ -33,38 +34,34 @@ use writing::rule_bytes;
 
 // The line by a rule that cites the line before it.
 fn put_next(
-    s: &[u8],
-    t: &Notes,
+    r: &Request<OfFlags>,
     at: usize,
     marks: &Marks,
     rule: u8,
     room: &mut [u8],
     progress: &mut Progress,
 )
-    requires at_hand { AtHand Flags s.now t.now }
-    requires position { Position (plan_in Flags s.now t.now) at }
+    requires position { Position (plan_in Flags r.now.bytes.now r.now.notes.now) at }
     requires marked { Marked marks.now }
     requires underway { Underway progress.old }
     requires progress_nonzero { 0 < progress.old.lines }
-    ensures { Put (line_of marks.now (rest_at (plan_in Flags s.now t.now) at) (goals_of (request_in Flags s.now t.now)) rule ((progress.old.lines - 1) ∷ []) ∷ []) progress.old room.old progress.new room.new }
+    ensures { Put (line_of marks.now (rest_at (plan_in Flags r.now.bytes.now r.now.notes.now) at) (goals_of (request_in Flags r.now.bytes.now r.now.notes.now)) rule ((progress.old.lines - 1) ∷ []) ∷ []) progress.old room.old progress.new room.new }
 {
     let mut cites = Cites::none();
     let previous = progress.lines - 1;
     cites.push(previous);
-    put_goals(s, t, at, marks, rule, &cites, room, progress);
+    put_goals(r, at, marks, rule, &cites, room, progress);
 }
 
 // The two lines where nothing is left (FORMAT 24.6).
-fn put_end(s: &[u8], t: &Notes, marks: &Marks, room: &mut [u8], progress: &mut Progress)
-    requires at_hand { AtHand Flags s.now t.now }
+fn put_end(r: &Request<OfFlags>, marks: &Marks, room: &mut [u8], progress: &mut Progress)
     requires marked { Marked marks.now }
     requires underway { Underway progress.old }
-    ensures { Put (lines_at s.now t.now format.items marks.now progress.old.lines) progress.old room.old progress.new room.new }
+    ensures { Put (lines_at r.now.bytes.now r.now.notes.now format.items marks.now progress.old.lines) progress.old room.old progress.new room.new }
 {
     put_empty(marks, room, progress);
     put_next(
-        s,
-        t,
+        r,
         limits::ITEMS,
         marks,
         rule_bytes::CONSEQUENCE_RULE,
@@ -75,29 +72,26 @@ fn put_end(s: &[u8], t: &Notes, marks: &Marks, room: &mut [u8], progress: &mut P
 
 // The line by rule 5: it cites the action's own line and the line before this one (FORMAT 24.7).
 fn put_composed(
-    s: &[u8],
-    t: &Notes,
+    r: &Request<OfFlags>,
     at: usize,
     marks: &Marks,
     first: usize,
     room: &mut [u8],
     progress: &mut Progress,
 )
-    requires at_hand { AtHand Flags s.now t.now }
-    requires position { Position (plan_in Flags s.now t.now) at }
+    requires position { Position (plan_in Flags r.now.bytes.now r.now.notes.now) at }
     requires marked { Marked marks.now }
     requires first_bound { first < 65536 }
     requires underway { Underway progress.old }
     requires progress_nonzero { 0 < progress.old.lines }
-    ensures { Put (line_of marks.now (rest_at (plan_in Flags s.now t.now) at) (goals_of (request_in Flags s.now t.now)) Limits.composition_rule (first ∷ (progress.old.lines - 1) ∷ []) ∷ []) progress.old room.old progress.new room.new }
+    ensures { Put (line_of marks.now (rest_at (plan_in Flags r.now.bytes.now r.now.notes.now) at) (goals_of (request_in Flags r.now.bytes.now r.now.notes.now)) Limits.composition_rule (first ∷ (progress.old.lines - 1) ∷ []) ∷ []) progress.old room.old progress.new room.new }
 {
     let mut cites = Cites::none();
     let last = progress.lines - 1;
     cites.push(first);
     cites.push(last);
     put_goals(
-        s,
-        t,
+        r,
         at,
         marks,
         rule_bytes::COMPOSITION_RULE,
@@ -109,113 +103,111 @@ fn put_composed(
 
 // The plan from a position on.
 #[cycle(put_acting_put_branching_put_from_put_readings_put_sensing)]
-fn put_from(s: &[u8], t: &Notes, at: usize, marks: &Marks, room: &mut [u8], progress: &mut Progress)
-    requires at_hand { AtHand Flags s.now t.now }
-    requires position { Position (plan_in Flags s.now t.now) at }
+fn put_from(
+    r: &Request<OfFlags>,
+    at: usize,
+    marks: &Marks,
+    room: &mut [u8],
+    progress: &mut Progress,
+)
+    requires position { Position (plan_in Flags r.now.bytes.now r.now.notes.now) at }
     requires marked { Marked marks.now }
-    requires narrow_from { NarrowFrom s.now t.now at marks.now }
+    requires narrow_from { NarrowFrom r.now.bytes.now r.now.notes.now at marks.now }
     requires underway { Underway progress.old }
-    ensures { Put (lines_at s.now t.now at marks.now progress.old.lines) progress.old room.old progress.new room.new }
+    ensures { Put (lines_at r.now.bytes.now r.now.notes.now at marks.now progress.old.lines) progress.old room.old progress.new room.new }
 {
     if limits::LINES < progress.lines {
         return;
     }
     if at == limits::ITEMS {
-        put_end(s, t, marks, room, progress);
+        put_end(r, marks, room, progress);
         return;
     }
-    let p = get(t, notes::ITEM_PLACE + at);
-    if s[p] == limits::BRANCHING_BYTE {
-        put_branching(s, t, at, marks, room, progress);
+    let p = get(r.notes, notes::ITEM_PLACE + at);
+    if r.bytes[p] == limits::BRANCHING_BYTE {
+        put_branching(r, at, marks, room, progress);
         return;
     }
-    let byte = s[p];
+    let byte = r.bytes[p];
     let a = wide(byte);
-    if is_sensing(Form::Flags, s, t, a) {
-        put_sensing(s, t, at, a, marks, room, progress);
+    if is_sensing(r, a) {
+        put_sensing(r, at, a, marks, room, progress);
         return;
     }
-    put_acting(s, t, at, byte, marks, room, progress);
+    put_acting(r, at, byte, marks, room, progress);
 }
 
 // A branching that is item i: the lines of the chosen branch and of what is left behind it, and then rule 4 (FORMAT 24.9).
 #[cycle(put_acting_put_branching_put_from_put_readings_put_sensing)]
 fn put_branching(
-    s: &[u8],
-    t: &Notes,
+    r: &Request<OfFlags>,
     i: usize,
     marks: &Marks,
     room: &mut [u8],
     progress: &mut Progress,
 )
-    requires at_hand { AtHand Flags s.now t.now }
-    requires i_bound { i < items_of (plan_in Flags s.now t.now) }
-    requires i_value { get_or s.now (get_or t.now (0 + i) 0) 0 ≡ 255 }
+    requires i_bound { i < items_of (plan_in Flags r.now.bytes.now r.now.notes.now) }
+    requires i_value { get_or r.now.bytes.now (get_or r.now.notes.now (0 + i) 0) 0 ≡ 255 }
     requires marked { Marked marks.now }
-    requires narrow_from { NarrowFrom s.now t.now i marks.now }
+    requires narrow_from { NarrowFrom r.now.bytes.now r.now.notes.now i marks.now }
     requires underway { Underway progress.old }
-    ensures { Put (lines_at s.now t.now i marks.now progress.old.lines) progress.old room.old progress.new room.new }
+    ensures { Put (lines_at r.now.bytes.now r.now.notes.now i marks.now progress.old.lines) progress.old room.old progress.new room.new }
 {
-    if let Some(at) = chosen(Form::Flags, s, t, i, marks) {
-        put_from(s, t, at, marks, room, progress);
-        put_next(s, t, i, marks, rule_bytes::BRANCHING_RULE, room, progress);
+    if let Some(at) = chosen(r, i, marks) {
+        put_from(r, at, marks, room, progress);
+        put_next(r, i, marks, rule_bytes::BRANCHING_RULE, room, progress);
     }
 }
 
 // An action that is item i and does not sense: rule 2, the lines of the state after it, and then rule 5 (FORMAT 24.7).
 #[cycle(put_acting_put_branching_put_from_put_readings_put_sensing)]
 fn put_acting(
-    s: &[u8],
-    t: &Notes,
+    r: &Request<OfFlags>,
     i: usize,
     a: u8,
     marks: &Marks,
     room: &mut [u8],
     progress: &mut Progress,
 )
-    requires at_hand { AtHand Flags s.now t.now }
-    requires acts { Acts s.now t.now i a }
-    requires a_value { sensing (table_in Flags s.now) a ≡ false }
+    requires acts { Acts r.now.bytes.now r.now.notes.now i a }
+    requires a_value { sensing (table_in Flags r.now.bytes.now) a ≡ false }
     requires marked { Marked marks.now }
-    requires narrow_from { NarrowFrom s.now t.now i marks.now }
+    requires narrow_from { NarrowFrom r.now.bytes.now r.now.notes.now i marks.now }
     requires underway { Underway progress.old }
-    ensures { Put (lines_at s.now t.now i marks.now progress.old.lines) progress.old room.old progress.new room.new }
+    ensures { Put (lines_at r.now.bytes.now r.now.notes.now i marks.now progress.old.lines) progress.old room.old progress.new room.new }
 {
     let first = progress.lines;
     let action = wide(a);
-    let after = state_after(s, t, action, marks);
+    let after = state_after(r, action, marks);
     put_action(a, marks, &after, room, progress);
-    let at = follow(Form::Flags, s, t, i);
-    put_from(s, t, at, &after, room, progress);
-    put_composed(s, t, i, marks, first, room, progress);
+    let at = follow(r, i);
+    put_from(r, at, &after, room, progress);
+    put_composed(r, i, marks, first, room, progress);
 }
 
 // A sensing action that is item i: the lines of each reading, and then rule 3 (FORMAT 24.8).
 #[cycle(put_acting_put_branching_put_from_put_readings_put_sensing)]
 fn put_sensing(
-    s: &[u8],
-    t: &Notes,
+    r: &Request<OfFlags>,
     i: usize,
     a: usize,
     marks: &Marks,
     room: &mut [u8],
     progress: &mut Progress,
 )
-    requires at_hand { AtHand Flags s.now t.now }
-    requires acts { Acts s.now t.now i a }
-    requires a_value { sensing (table_in Flags s.now) a ≡ true }
+    requires acts { Acts r.now.bytes.now r.now.notes.now i a }
+    requires a_value { sensing (table_in Flags r.now.bytes.now) a ≡ true }
     requires marked { Marked marks.now }
-    requires narrow_from { NarrowFrom s.now t.now i marks.now }
+    requires narrow_from { NarrowFrom r.now.bytes.now r.now.notes.now i marks.now }
     requires underway { Underway progress.old }
-    ensures { Put (lines_at s.now t.now i marks.now progress.old.lines) progress.old room.old progress.new room.new }
+    ensures { Put (lines_at r.now.bytes.now r.now.notes.now i marks.now progress.old.lines) progress.old room.old progress.new room.new }
 {
-    let at = follow(Form::Flags, s, t, i);
-    let f = first_unknown(Form::Flags, s, t, a, marks);
+    let at = follow(r, i);
+    let f = first_unknown(r, a, marks);
     let mut cites = Cites::none();
-    put_readings(s, t, a, at, f, marks, &mut cites, room, progress);
+    put_readings(r, a, at, f, marks, &mut cites, room, progress);
     put_goals(
-        s,
-        t,
+        r,
         i,
         marks,
         rule_bytes::SENSING_RULE,
@@ -229,8 +221,7 @@ fn put_sensing(
 // on, and its last line is cited.
 #[cycle(put_acting_put_branching_put_from_put_readings_put_sensing)]
 fn put_readings(
-    s: &[u8],
-    t: &Notes,
+    r: &Request<OfFlags>,
     a: usize,
     at: usize,
     f: usize,
@@ -239,25 +230,24 @@ fn put_readings(
     room: &mut [u8],
     progress: &mut Progress,
 )
-    requires at_hand { AtHand Flags s.now t.now }
     requires a_lt_actions { a < format.actions }
-    requires position { Position (plan_in Flags s.now t.now) at }
+    requires position { Position (plan_in Flags r.now.bytes.now r.now.notes.now) at }
     requires marked { Marked marks.now }
-    requires narrow_readings { NarrowReadings s.now t.now a at f marks.now }
-    requires marks_bound { length cites.old + 2 ^ length (fluents_from s.now a f marks.now) ≤ format.citations }
+    requires narrow_readings { NarrowReadings r.now.bytes.now r.now.notes.now a at f marks.now }
+    requires marks_bound { length cites.old + 2 ^ length (fluents_from r.now.bytes.now a f marks.now) ≤ format.citations }
     requires underway { Underway progress.old }
-    ensures { ReadingsPut (2 ^ length (fluents_from s.now a f marks.now)) (readings_at s.now t.now a at f marks.now progress.old.lines) cites.old progress.old room.old cites.new progress.new room.new }
+    ensures { ReadingsPut (2 ^ length (fluents_from r.now.bytes.now a f marks.now)) (readings_at r.now.bytes.now r.now.notes.now a at f marks.now progress.old.lines) cites.old progress.old room.old cites.new progress.new room.new }
 {
     if f < limits::FLUENTS {
         let mut state = *marks;
         state[f] = limits::TRUE_MARK;
-        let g = next_unknown(Form::Flags, s, t, a, f + 1, &state);
-        put_readings(s, t, a, at, g, &state, cites, room, progress);
+        let g = next_unknown(r, a, f + 1, &state);
+        put_readings(r, a, at, g, &state, cites, room, progress);
         state[f] = limits::FALSE_MARK;
-        put_readings(s, t, a, at, g, &state, cites, room, progress);
+        put_readings(r, a, at, g, &state, cites, room, progress);
         return;
     }
-    put_from(s, t, at, marks, room, progress);
+    put_from(r, at, marks, room, progress);
     cites.push(progress.lines - 1);
 }
 
@@ -269,16 +259,15 @@ pub struct Size {
 }
 
 // The lines of the whole plan from the first state, behind two bytes that are left for their number.
-fn put_plan(s: &[u8], t: &Notes, room: &mut [u8]) -> Size
-    requires at_hand { AtHand Flags s.now t.now }
-    requires verified { Verified (narrow_walk_of format (request_in Flags s.now t.now)) }
-    ensures { Lined (derivation_of format (request_in Flags s.now t.now)) room.old result room.new }
+fn put_plan(r: &Request<OfFlags>, room: &mut [u8]) -> Size
+    requires { Verified (narrow_walk_of format (request_in Flags r.now.bytes.now r.now.notes.now)) }
+    ensures { Lined (derivation_of format (request_in Flags r.now.bytes.now r.now.notes.now)) room.old result room.new }
 {
-    let marks = state_of(s, 2);
-    let items = get(t, notes::ITEMS);
+    let marks = state_of(r.bytes, 2);
+    let items = get(r.notes, notes::ITEMS);
     let at = start_of(items);
     let mut progress = Progress { lines: 0, end: 2 };
-    put_from(s, t, at, &marks, room, &mut progress);
+    put_from(r, at, &marks, room, &mut progress);
     Size {
         lines: progress.lines,
         bytes: progress.end,
@@ -286,23 +275,21 @@ fn put_plan(s: &[u8], t: &Notes, room: &mut [u8]) -> Size
 }
 
 // The first pass: how long the derivation is.
-pub fn measure(s: &[u8], t: &Notes) -> Size
-    requires at_hand { AtHand Flags s.now t.now }
-    requires verified { Verified (narrow_walk_of format (request_in Flags s.now t.now)) }
-    ensures { Measured (derivation_of format (request_in Flags s.now t.now)) result }
+pub fn measure(r: &Request<OfFlags>) -> Size
+    requires { Verified (narrow_walk_of format (request_in Flags r.now.bytes.now r.now.notes.now)) }
+    ensures { Measured (derivation_of format (request_in Flags r.now.bytes.now r.now.notes.now)) result }
 {
     let mut none = [0u8; 1];
-    put_plan(s, t, &mut none)
+    put_plan(r, &mut none)
 }
 
 // The second pass: the derivation is put at the start of a room that has the bytes (FORMAT 24.10).
-pub fn write(s: &[u8], t: &Notes, room: &mut [u8])
-    requires at_hand { AtHand Flags s.now t.now }
-    requires verified { Verified (narrow_walk_of format (request_in Flags s.now t.now)) }
-    requires t_len_bound { length (derivation_of format (request_in Flags s.now t.now)) ≤ format.lines }
-    requires t_in_bounds { length (derivation_bytes (derivation_of format (request_in Flags s.now t.now))) ≤ length room.old }
-    ensures { room.new ≡ derivation_bytes (derivation_of format (request_in Flags s.now t.now)) ++ drop (length (derivation_bytes (derivation_of format (request_in Flags s.now t.now)))) room.old }
+pub fn write(r: &Request<OfFlags>, room: &mut [u8])
+    requires verified { Verified (narrow_walk_of format (request_in Flags r.now.bytes.now r.now.notes.now)) }
+    requires t_len_bound { length (derivation_of format (request_in Flags r.now.bytes.now r.now.notes.now)) ≤ format.lines }
+    requires t_in_bounds { length (derivation_bytes (derivation_of format (request_in Flags r.now.bytes.now r.now.notes.now))) ≤ length room.old }
+    ensures { room.new ≡ derivation_bytes (derivation_of format (request_in Flags r.now.bytes.now r.now.notes.now)) ++ drop (length (derivation_bytes (derivation_of format (request_in Flags r.now.bytes.now r.now.notes.now)))) room.old }
 {
-    let size = put_plan(s, t, room);
+    let size = put_plan(r, room);
     put_number(room, 0, size.lines);
 }

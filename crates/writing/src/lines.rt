@@ -8,7 +8,7 @@ ghost use Rattle.meaning.specs.Derivations.{knows, literals_of, goals_of};
 ghost use Rattle.meaning.specs.Layouts.{list_written, conclusion_written, numbers_written};
 ghost use Rattle.meaning.specs.Schemes.{line_of};
 ghost use Rattle.steps.specs.Held.{plan_in, request_in};
-ghost use Rattle.steps.specs.AtHand.{AtHand, Marked};
+ghost use Rattle.steps.specs.AtHand.{Marked};
 ghost use Rattle.steps.specs.Rests.{Position, rest_at};
 ghost use Rattle.writing.specs.Progress.{add, standing, Underway};
 ghost use Rattle.meaning.specs.declared.Form.TheVariants.{Flags};
@@ -20,9 +20,11 @@ use super::rule_bytes;
 use finding::branches::sequence_of;
 use meaning::Form;
 use parsing::limits;
+use parsing::shapes::OfFlags;
 use reading::marks::Marks;
 use reading::notes;
-use reading::notes::{Notes, get};
+use reading::notes::get;
+use steps::request::Request;
 
 // The number of lines that are there, and where they end.
 #[derive(Clone, Copy)]
@@ -63,16 +65,15 @@ fn put_uncited(marks: &Marks, rule: u8, room: &mut [u8], q: usize) -> usize
 }
 
 // The goals as the conclusion, copied from the request. It gives the place after them.
-fn put_asked(s: &[u8], t: &Notes, room: &mut [u8], q: usize) -> usize
-    requires at_hand { AtHand Flags s.now t.now }
-    requires q_bound { q < 140737488355328 }
-    ensures after { result ≡ q + length (conclusion_written (goals_of (request_in Flags s.now t.now))) }
+fn put_asked(r: &Request<OfFlags>, room: &mut [u8], q: usize) -> usize
+    requires { q < 140737488355328 }
+    ensures after { result ≡ q + length (conclusion_written (goals_of (request_in Flags r.now.bytes.now r.now.notes.now))) }
     ensures within { result ≤ q + 256 }
-    ensures written { room.new ≡ sets room.old q (conclusion_written (goals_of (request_in Flags s.now t.now))) }
+    ensures written { room.new ≡ sets room.old q (conclusion_written (goals_of (request_in Flags r.now.bytes.now r.now.notes.now))) }
 {
-    let goals = get(t, notes::GOALS);
-    let end = sequence_of(Form::Flags, s, goals);
-    put_part(s, goals, end, room, q);
+    let goals = get(r.notes, notes::GOALS);
+    let end = sequence_of(Form::Flags, r.bytes, goals);
+    put_part(r.bytes, goals, end, room, q);
     q + (end - goals)
 }
 
@@ -112,8 +113,7 @@ pub fn put_action(a: u8, marks: &Marks, after: &Marks, room: &mut [u8], progress
 
 // The line by a rule that concludes the goals, of what is left from a position on.
 pub fn put_goals(
-    s: &[u8],
-    t: &Notes,
+    r: &Request<OfFlags>,
     at: usize,
     marks: &Marks,
     rule: u8,
@@ -121,19 +121,18 @@ pub fn put_goals(
     room: &mut [u8],
     progress: &mut Progress,
 )
-    requires at_hand { AtHand Flags s.now t.now }
-    requires position { Position (plan_in Flags s.now t.now) at }
+    requires position { Position (plan_in Flags r.now.bytes.now r.now.notes.now) at }
     requires marked { Marked marks.now }
     requires underway { Underway progress.old }
-    ensures stands { standing progress.new room.new ≡ add (standing progress.old room.old) (line_of marks.now (rest_at (plan_in Flags s.now t.now) at) (goals_of (request_in Flags s.now t.now)) rule cites.now ∷ []) }
+    ensures stands { standing progress.new room.new ≡ add (standing progress.old room.old) (line_of marks.now (rest_at (plan_in Flags r.now.bytes.now r.now.notes.now) at) (goals_of (request_in Flags r.now.bytes.now r.now.notes.now)) rule cites.now ∷ []) }
     ensures going { Underway progress.new }
 {
     if limits::LINES < progress.lines {
         return;
     }
     let plan = put_known(marks, room, progress.end);
-    let concluded = put_rest(s, t, at, room, plan);
-    let ruled = put_asked(s, t, room, concluded);
+    let concluded = put_rest(r, at, room, plan);
+    let ruled = put_asked(r, room, concluded);
     put(room, ruled, rule);
     progress.end = put_cites(cites, room, ruled + 1);
     progress.lines += 1;

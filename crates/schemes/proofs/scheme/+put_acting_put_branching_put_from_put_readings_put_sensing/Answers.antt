@@ -24,7 +24,7 @@ pub put_acting-put_from-requires : goal.put_acting-put_from-requires
 put_acting-put_from-requires t c = (search follow_falls, (search rules, (search followed_position, (search after_marked, (search action_moves, search rules)))))
 
 pub put_acting-put_composed-requires-clause-position : goal.put_acting-put_composed-requires-clause-position
-put_acting-put_composed-requires-clause-position t c = item_position _ _ c.requires.at_hand _ (acts_there _ _ _ _ c.requires.acts)
+put_acting-put_composed-requires-clause-position t c = item_position _ _ c.args.r.now.at_hand _ (acts_there _ _ _ _ c.requires.acts)
 
 pub put_acting-put_composed-requires-clause-marked : goal.put_acting-put_composed-requires-clause-marked
 put_acting-put_composed-requires-clause-marked t c = c.requires.marked
@@ -59,20 +59,20 @@ put_from-overflow_add-at t c = search (place_fits, item_here)
 pub put_from-get-p-requires : goal.put_from-get-p-requires
 put_from-get-p-requires t c = search (place_there, item_here)
 
-pub put_from-bounds-s-p : goal.put_from-bounds-s-p
-put_from-bounds-s-p t c = search (item_inside, item_here)
+pub put_from-bounds-r-p : goal.put_from-bounds-r-p
+put_from-bounds-r-p t c = search (item_inside, item_here)
 
 pub put_from-put_branching-requires : goal.put_from-put_branching-requires
 put_from-put_branching-requires t c = (search item_falls, (search rules, (search item_here, (search opens_branching, (search rules, (search rules, search rules))))))
 
-pub put_from-bounds-s-p-2 : goal.put_from-bounds-s-p-2
-put_from-bounds-s-p-2 t c = search (item_inside, item_here)
+pub put_from-bounds-r-p-2 : goal.put_from-bounds-r-p-2
+put_from-bounds-r-p-2 t c = search (item_inside, item_here)
 
 pub put_from-is_sensing-requires-clause-a_lt_actions : goal.put_from-is_sensing-requires-clause-a_lt_actions
 put_from-is_sensing-requires-clause-a_lt_actions t c = search (action_here, item_here)
 
 pub put_from-put_sensing-requires : goal.put_from-put_sensing-requires
-put_from-put_sensing-requires t c = (search item_falls, (search rules, (acts_here _ _ c.requires.at_hand _ (item_here _ _ _ c.requires.position c.if-at-eq-ITEMS.false) _ c.get-p.ensures c.if-s-p.false _ c.wide-a.ensures, (search told_sensing, (search rules, (search rules, search rules))))))
+put_from-put_sensing-requires t c = (search item_falls, (search rules, (acts_here _ _ c.args.r.now.at_hand _ (item_here _ _ _ c.requires.position c.if-at-eq-ITEMS.false) _ c.get-p.ensures c.if-s-p.false _ c.wide-a.ensures, (search told_sensing, (search rules, (search rules, search rules))))))
 
 pub put_from-put_acting-requires : goal.put_from-put_acting-requires
 put_from-put_acting-requires t c = (search item_falls, (search rules, (search (byte_acts, item_here), (search told_unsensing, (search rules, (search rules, search rules))))))

@@ -11,10 +11,10 @@ pub put_known-plan-requires : goal.put_known-plan-requires
 put_known-plan-requires c = let near = progress_near _ c.requires.underway c.if-progress-gt-LINES.false in record { marked = c.requires.marked; q_bound = omega (arith, near) }
 
 pub put_rest-concluded-requires : goal.put_rest-concluded-requires
-put_rest-concluded-requires c = let near = progress_near _ c.requires.underway c.if-progress-gt-LINES.false in let plan = c.put_known-plan.ensures.within in record { at_hand = c.requires.at_hand; position = c.requires.position; q_bound = omega (arith, near, plan) }
+put_rest-concluded-requires c = let near = progress_near _ c.requires.underway c.if-progress-gt-LINES.false in let plan = c.put_known-plan.ensures.within in record { position = c.requires.position; q_bound = omega (arith, near, plan) }
 
 pub put_asked-ruled-requires : goal.put_asked-ruled-requires
-put_asked-ruled-requires c = let near = progress_near _ c.requires.underway c.if-progress-gt-LINES.false in let rest = c.put_rest-concluded.ensures.within in let plan = c.put_known-plan.ensures.within in record { at_hand = c.requires.at_hand; q_bound = omega (arith, near, rest, plan) }
+put_asked-ruled-requires c = let near = progress_near _ c.requires.underway c.if-progress-gt-LINES.false in let rest = c.put_rest-concluded.ensures.within in let plan = c.put_known-plan.ensures.within in omega (arith, near, rest, plan)
 
 pub overflow_add-ruled : goal.overflow_add-ruled
 overflow_add-ruled c = let near = progress_near _ c.requires.underway c.if-progress-gt-LINES.false in

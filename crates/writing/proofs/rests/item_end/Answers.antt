@@ -9,20 +9,20 @@ overflow_add-i c = search place_fits
 pub get-start-requires : goal.get-start-requires
 get-start-requires c = search place_there
 
-pub bounds-s-start : goal.bounds-s-start
-bounds-s-start c = search first_there
+pub bounds-r-start : goal.bounds-r-start
+bounds-r-start c = search first_there
 
 pub overflow_add-result : goal.overflow_add-result
 overflow_add-result c = search next_fits
 
-pub returns-then-s-start : goal.returns-then-s-start
-returns-then-s-start c = search action_ends
+pub returns-then-r-start : goal.returns-then-r-start
+returns-then-r-start c = search action_ends
 
 pub overflow_add-branches : goal.overflow_add-branches
 overflow_add-branches c = search next_fits
 
-pub bounds-s-start-2 : goal.bounds-s-start-2
-bounds-s-start-2 c = search count_there
+pub bounds-r-start-2 : goal.bounds-r-start-2
+bounds-r-start-2 c = search count_there
 
 pub overflow_add-p : goal.overflow_add-p
 overflow_add-p c = search second_fits

@@ -4,4 +4,4 @@ use Rattle.writing.proofs.ItemEndLaws.{Ending}
 use Rattle.writing.proofs.rests.item_end.Given as goal
 
 abbrev pub invariant-loop : goal.invariant-loop
-invariant-loop l = Ending l.s l.t l.i (l.branches - l.counter) l.p l.item
+invariant-loop l = Ending l.r.bytes.now l.r.notes.now l.i (l.branches - l.counter) l.p l.item
