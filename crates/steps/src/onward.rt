@@ -7,7 +7,6 @@ ghost use Rattle.steps.specs.Held.{plan_in};
 ghost use Rattle.steps.specs.AtHand.{AtHand, MarkedAs};
 ghost use Rattle.steps.specs.Rests.{start};
 ghost use Rattle.steps.specs.Steps.{knows_as, Followed, Into, Chosen};
-ghost use Rattle.meaning.specs.declared.Form.TheVariants.{Flags};
 
 use finding::branches::{empty, next_item, next_place, sequence_of};
 use meaning::Form;
@@ -85,15 +84,4 @@ pub fn chosen(form: Form, s: &[u8], t: &Notes, i: usize, marks: &Marks) -> Optio
         );
     }
     None
-}
-
-// The same of a request of flags. The compiler makes this one a part of its caller.
-pub fn chosen_flags(s: &[u8], t: &Notes, i: usize, marks: &Marks) -> Option<usize>
-    requires at_hand { AtHand Flags s.now t.now }
-    requires i_bound { i < items_of (plan_in Flags s.now t.now) }
-    requires i_value { get_or s.now (get_or t.now (0 + i) 0) 0 ≡ 255 }
-    requires marked_as { MarkedAs Flags s.now marks.now }
-    ensures { Chosen Flags s.now t.now i marks.now result }
-{
-    chosen(Form::Flags, s, t, i, marks)
 }
