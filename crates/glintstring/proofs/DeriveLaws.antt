@@ -38,13 +38,12 @@ use Rattle.finding.specs.Branches.{sequence_place}
 use Rattle.finding.specs.TablesHere.{blank}
 use Rattle.steps.specs.Held.{guards_in, request_in}
 use Rattle.steps.specs.AtHand.{AtHand}
-use Rattle.steps.specs.Steps.{narrow_mode, mode_in, form_in, walk_held}
+use Rattle.steps.specs.Steps.{narrow_mode, mode_in, walk_held}
 use Rattle.steps.proofs.HandLaws.{is_whether}
 use Rattle.steps.proofs.ModeLaws.{held_plain, held_narrow}
 use Rattle.steps.proofs.ModeHand.{new_mode, same_request, same_guarded, hand_stays}
 use Rattle.schemes.specs.declared.scheme.Size.{Size}
 use Rattle.schemes.specs.Sizes.{Measured}
-use Rattle.verdicts.proofs.WalkedLaws.{flags_mode}
 use Rattle.glintstring.specs.CheckCalls.{too_many}
 use Rattle.glintstring.proofs.SettledAtHand.{settled_got, settled_held}
 use Rattle.glintstring.proofs.CheckCallLaws.{beyond_is}
@@ -155,9 +154,6 @@ module _ (x : Request) (room : List ℕ) (budget : ℕ) (a : Answer) where
 -- OF WHAT IS HELD, by the two walks of it: the second goes by notes with another mode.
 pub narrow_hand : (s t : List ℕ) → AtHand Flags s t → (u : List ℕ) → u ≡ set t mode_slot 2 → AtHand Flags s u
 narrow_hand s t here u put = rw put (hand_stays Flags s t 2 here)
-
-pub narrow_form : (s t : List ℕ) → AtHand Flags s t → length t ≡ slots → (u : List ℕ) → u ≡ set t mode_slot 2 → form_in u ≡ Flags
-narrow_form s t here sized u put = flags_mode u 2 (ap mode_in put ∙ new_mode Flags s t 2 sized) refl
 
 pub narrow_verified : (s t : List ℕ) (budget : ℕ) → guards_in s t ≡ [] → length t ≡ slots → (u : List ℕ) → u ≡ set t mode_slot 2 → (lent left : List ℕ) (v : Answer)
     → record { answer = v; state = left } ≡ within lent budget (walk_held Flags s u) → v.number ≡ 0 → Verified (narrow_walk_of format (request_in Flags s u))

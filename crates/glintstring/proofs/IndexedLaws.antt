@@ -39,12 +39,11 @@ use Rattle.finding.specs.TablesHere.{blank, TableHere}
 use Rattle.finding.proofs.FoundLaws.{found_none, found_at}
 use Rattle.steps.specs.Held.{table_in, guards_in, request_in}
 use Rattle.steps.specs.AtHand.{AtHand}
-use Rattle.steps.specs.Steps.{mode_in, form_in, walk_held}
+use Rattle.steps.specs.Steps.{mode_in, walk_held}
 use Rattle.steps.proofs.ModeLaws.{held_known}
 use Rattle.indexing.specs.IndexNotes.{index_taken}
 use Rattle.indexing.proofs.BuildLaws.{index_short}
 use Rattle.indexing.proofs.TakenHand.{taken_mode, taken_request, taken_guards, taken_hand}
-use Rattle.verdicts.proofs.WalkedLaws.{plain_mode}
 use Rattle.glintstring.proofs.SettledAtHand.{settled_got, settled_at_hand, settled_held, settled_known, settled_table}
 use Rattle.glintstring.proofs.JudgingLaws.{Gives, held_table, judge_9, judge_refused, judge_walked}
 
@@ -109,10 +108,6 @@ module _ (s t u : List ℕ) (r : Passed) (settles : outcome r u ≡ noting (requ
     (i : List ℕ) (right : i ≡ index_of (table_in Flags s)) (w : List ℕ) (taken : w ≡ index_taken i 0 (table_in Flags s).actions 0 0 0 u) where
   pub indexed_hand : AtHand Flags s w
   indexed_hand = rw taken (taken_hand s u (settled_table s t u r settles e passes bytes empty) i right (settled_at_hand s t u r settles e passes bytes empty))
-
-  pub indexed_form : form_in w ≡ Flags
-  indexed_form =
-      plain_mode w (ap mode_in taken ∙ taken_mode s u (settled_table s t u r settles e passes bytes empty) i right ∙ settled_known s t u r settles e passes bytes empty)
 
 -- THE INDEX CALL, by what was read. The count has room.
 pub length_fits : (s t : List ℕ) → TableHere Flags s t → (l : ℕ) → l ≡ length (index_of (table_in Flags s)) → l < 4294967296

@@ -16,6 +16,7 @@ use finding::branches::sequence_of;
 use meaning::{Answer, Form};
 use parsing::bytes::wide;
 use parsing::limits;
+use parsing::shapes::OfFlags;
 use reading::notes;
 use reading::notes::{Notes, get, put};
 use refusing::settled::settle;
@@ -62,12 +63,12 @@ fn derive_walked(request: &[u8], t: &mut Notes, room: &mut [u8], budget: u32) ->
     ensures { record { answer = result; room = room.new } ≡ derive_got format room.old budget (got (request_in Flags request.now t.old) 0) }
 {
     let mut state = [0u8; limits::FLUENTS];
-    let walked = walk_plan(request, t, &mut state, budget);
+    let walked = walk_plan::<OfFlags>(request, t, &mut state, budget);
     if walked.number != answers::VERIFIED {
         return walked;
     }
     put(t, notes::MODE, NARROW);
-    let narrow = walk_plan(request, t, &mut state, budget);
+    let narrow = walk_plan::<OfFlags>(request, t, &mut state, budget);
     if narrow.number != answers::VERIFIED {
         return narrow;
     }

@@ -8,7 +8,7 @@ ghost use Rattle.meaning.specs.Indexes.{judge_indexed, line_indexed};
 ghost use Rattle.meaning.specs.Valued.{judge_values};
 ghost use Rattle.steps.specs.Held.{table_in};
 ghost use Rattle.steps.specs.AtHand.{AtHand};
-ghost use Rattle.steps.specs.Steps.{form_in, walk_held};
+ghost use Rattle.steps.specs.Steps.{walk_held};
 ghost use Rattle.meaning.specs.declared.Form.TheVariants.{Flags};
 
 use super::missing::line_at;
@@ -16,13 +16,14 @@ use indexing::differing::differs;
 use indexing::taking::take_index;
 use meaning::Answer;
 use parsing::limits;
+use parsing::shapes::{OfFlags, OfValues};
 use reading::notes;
 use reading::notes::{Notes, put};
 use refusing::settled::{settle, settle_guarded, settle_values};
 use steps::trying::VALUES;
 use verdicts::answers;
 use verdicts::answers::{refused, uncounted};
-use verdicts::walked::{walk_plan, walk_values};
+use verdicts::walked::walk_plan;
 
 // The length of a lent state.
 const STATE_BYTES: usize = limits::FLUENTS;
@@ -33,12 +34,11 @@ const BY_CASES: usize = 1;
 // The walk of a settled request, and the line of the action that stopped it.
 fn walk_with_line(request: &[u8], t: &Notes, state: &mut [u8], budget: u32) -> Judged
     requires at_hand { AtHand Flags request.now t.now }
-    requires t_value { form_in t.now ≡ Flags }
     requires state_len { length state.old ≡ format.state }
     ensures given { record { answer = result.answer; state = state.new } ≡ within state.old budget (walk_held Flags request.now t.now) }
     ensures line { result.line ≡ line_told (table_in Flags request.now) request.now (record { answer = result.answer; state = state.new }) }
 {
-    let answer = walk_plan(request, t, state, budget);
+    let answer = walk_plan::<OfFlags>(request, t, state, budget);
     let line = if answer.number == answers::NOT_EXECUTABLE {
         line_at(request, t, answer.place, state)
     } else {
@@ -142,7 +142,7 @@ pub fn judge_values(request: &[u8], state: &mut [u8], budget: u32) -> Answer
     match settle_values(request, &mut t) {
         Ok(_) => {
             put(&mut t, notes::MODE, VALUES);
-            walk_values(request, &t, state, budget)
+            walk_plan::<OfValues>(request, &t, state, budget)
         }
         Err(fault) => refused(fault, answers::THE_REQUEST),
     }

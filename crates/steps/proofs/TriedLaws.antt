@@ -187,12 +187,6 @@ module _ (m : ℕ) where
       pick-cases (eqb m 0) _ _ e (λ _ f. absurd (cc))
       (λ _ f. pick-cases (eqb m narrow_mode) _ _ f (λ narrow _. eqb-true _ _ narrow) (λ _ g. pick-cases (eqb m values_mode) _ _ g (λ _ h. absurd (cc)) (λ _ h. absurd (cc))))
 
-  pub values_named : mode_named m ≡ Values → m ≡ values_mode
-  unfolding mode_named
-  values_named e =
-      pick-cases (eqb m 0) _ _ e (λ _ f. absurd (cc))
-      (λ _ f. pick-cases (eqb m narrow_mode) _ _ f (λ _ g. absurd (cc)) (λ _ g. pick-cases (eqb m values_mode) _ _ g (λ valued _. eqb-true _ _ valued) (λ _ h. absurd (cc))))
-
   pub named_values : m ≡ values_mode → mode_named m ≡ Values
   unfolding mode_named pick
   named_values e = rw e refl

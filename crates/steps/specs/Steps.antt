@@ -174,10 +174,6 @@ met_from form s t at = meet (step_in form s t) (walk_from form s t at)
 unfoldable pub walk_held : Form → (s t : List ℕ) → Walked State
 walk_held form s t = meet (step_in form s t) (walk (step_in form s t) (plan_in form s t) (judged_in form s t)) (first_in form s)
 
--- THE FORM that a walk goes by: that of values in a mode of its own.
-unfoldable pub form_in : List ℕ → Form
-form_in t = pick (eqb (mode_in t) values_mode) (λ _. Valued) (λ _. Flags)
-
 -- The position after item i.
 pub record Followed (form : Form) (s t : List ℕ) (i r : ℕ) : Type 0 where
   pub later : i < r

@@ -7,7 +7,6 @@ ghost use Rattle.steps.specs.Held.{plan_in};
 ghost use Rattle.steps.specs.AtHand.{AtHand, MarkedAs};
 ghost use Rattle.steps.specs.Rests.{start};
 ghost use Rattle.steps.specs.Steps.{knows_as, Followed, Into, Chosen};
-ghost use Rattle.meaning.specs.declared.Form.TheVariants.{Flags};
 
 use super::looks::Looks;
 use super::request::Request;

@@ -5,7 +5,7 @@ ghost use Rattle.meaning.specs.Schemes.{narrow_does};
 ghost use Rattle.steps.specs.declared.cases.Tried.TheVariants.{Runs};
 ghost use Rattle.steps.specs.Held.{table_in};
 ghost use Rattle.steps.specs.AtHand.{AtHand, Marked, MarkedAs};
-ghost use Rattle.steps.specs.Steps.{mode_in, mode_named, does_in, after_in, refused_in, tried_as, does_as, after_as, tries_as, form_in, values_as};
+ghost use Rattle.steps.specs.Steps.{mode_in, mode_named, does_in, after_in, refused_in, tried_as, does_as, after_as, tries_as, values_as};
 ghost use Rattle.meaning.specs.declared.Form.TheVariants.{Flags, Valued};
 ghost use Rattle.valuing.specs.Valuing.{ValuedMarks};
 
@@ -105,16 +105,6 @@ fn after_flags(r: &Request<OfFlags>, a: usize, marks: &Marks) -> Marks
     match mode_of(r.notes) {
         Mode::ByKnown | Mode::Narrow => state_after(r, a, marks),
         _ => after_cases(r, a, marks),
-    }
-}
-
-// The form that a walk goes by.
-pub fn form_of(t: &Notes) -> Form
-    ensures { result ≡ form_in t.now }
-{
-    match mode_of(t) {
-        Mode::Values => Form::Valued,
-        _ => Form::Flags,
     }
 }
 

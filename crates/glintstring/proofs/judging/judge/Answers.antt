@@ -1,7 +1,7 @@
 -- The three ways out: another length than a state's, a refusal, and the walk of a settled request. Each is a case of the definition.
 use mathlib.Core.Path.{◌∙◌}
 use Rattle.glintstring.proofs.JudgingLaws.{judge_9, judge_walked, judge_refused}
-use Rattle.glintstring.proofs.SettledAtHand.{settled_at_hand, settled_form}
+use Rattle.glintstring.proofs.SettledAtHand.{settled_at_hand}
 use Rattle.verdicts.proofs.ReleasingLaws.{blank_is}
 use borrow.Author.Rules.{rules}
 use Rattle.glintstring.proofs.judging.judge.Goals as goal
@@ -15,7 +15,7 @@ pub settle-requires : goal.settle-requires
 settle-requires c = search (rules, blank_is)
 
 pub walk_with_line-requires : goal.walk_with_line-requires
-walk_with_line-requires c = let told = c.in-Ok.is in let bytes = c.type_inv.request in record { at_hand = settled_at_hand _ _ _ _ c.settle.ensures _ told bytes blank_is; t_value = settled_form _ _ _ _ c.settle.ensures _ told bytes blank_is; state_len = search rules }
+walk_with_line-requires c = let told = c.in-Ok.is in let bytes = c.type_inv.request in record { at_hand = settled_at_hand _ _ _ _ c.settle.ensures _ told bytes blank_is; state_len = search rules }
 
 pub returns-in-Ok : goal.returns-in-Ok
 returns-in-Ok c =

@@ -1,7 +1,7 @@
 -- The three ways out, as of the walk call; the mode is put into the notes of a settled request.
 use mathlib.Core.Path.{◌∙◌}
 use Rattle.glintstring.proofs.JudgingLaws.{cases_9, cases_walked, cases_refused}
-use Rattle.glintstring.proofs.SettledAtHand.{cases_hand, cases_form}
+use Rattle.glintstring.proofs.SettledAtHand.{cases_hand}
 use Rattle.verdicts.proofs.ReleasingLaws.{blank_is}
 use borrow.Author.Rules.{rules}
 use Rattle.glintstring.proofs.judging.judge_by_cases.Goals as goal
@@ -15,7 +15,7 @@ pub settle-requires : goal.settle-requires
 settle-requires c = search (rules, blank_is)
 
 pub walk_with_line-requires : goal.walk_with_line-requires
-walk_with_line-requires c = let told = c.in-Ok.is in let bytes = c.type_inv.request in record { at_hand = cases_hand _ _ _ _ c.settle.ensures _ told bytes blank_is _ c.put.ensures; t_value = cases_form _ _ _ _ c.settle.ensures _ told bytes blank_is _ c.put.ensures; state_len = search rules }
+walk_with_line-requires c = let told = c.in-Ok.is in let bytes = c.type_inv.request in record { at_hand = cases_hand _ _ _ _ c.settle.ensures _ told bytes blank_is _ c.put.ensures; state_len = search rules }
 
 pub returns-in-Ok : goal.returns-in-Ok
 returns-in-Ok c =

@@ -1,7 +1,7 @@
 -- The three ways out, as of the walk call.
 use mathlib.Core.Path.{◌∙◌}
 use Rattle.glintstring.proofs.JudgingLaws.{guarded_9, guarded_walked, guarded_refused}
-use Rattle.glintstring.proofs.SettledAtHand.{guarded_hand, guarded_form}
+use Rattle.glintstring.proofs.SettledAtHand.{guarded_hand}
 use Rattle.verdicts.proofs.ReleasingLaws.{blank_is}
 use borrow.Author.Rules.{rules}
 use Rattle.glintstring.proofs.judging.judge_guarded.Goals as goal
@@ -15,7 +15,7 @@ pub settle_guarded-requires : goal.settle_guarded-requires
 settle_guarded-requires c = search (rules, blank_is)
 
 pub walk_with_line-requires : goal.walk_with_line-requires
-walk_with_line-requires c = let told = c.in-Ok.is in let bytes = c.type_inv.request in record { at_hand = guarded_hand _ _ _ _ c.settle_guarded.ensures _ told bytes blank_is; t_value = guarded_form _ _ _ _ c.settle_guarded.ensures _ told bytes blank_is; state_len = search rules }
+walk_with_line-requires c = let told = c.in-Ok.is in let bytes = c.type_inv.request in record { at_hand = guarded_hand _ _ _ _ c.settle_guarded.ensures _ told bytes blank_is; state_len = search rules }
 
 pub returns-in-Ok : goal.returns-in-Ok
 returns-in-Ok c =

@@ -1,7 +1,7 @@
 -- The four ways out: another length than a state's, a refusal, another index, and the walk of a settled request with its index taken into the notes.
 use mathlib.Core.Path.{◌∙◌}
 use Rattle.glintstring.proofs.SettledAtHand.{settled_table}
-use Rattle.glintstring.proofs.IndexedLaws.{indexed_9, indexed_refused, indexed_differs, indexed_walked, right_one, indexed_hand, indexed_form}
+use Rattle.glintstring.proofs.IndexedLaws.{indexed_9, indexed_refused, indexed_differs, indexed_walked, right_one, indexed_hand}
 use Rattle.verdicts.proofs.ReleasingLaws.{blank_is}
 use borrow.Author.Rules.{rules}
 use Rattle.glintstring.proofs.judging.judge_indexed.Goals as goal
@@ -24,7 +24,7 @@ pub take_index-requires-clause-index_value : goal.take_index-requires-clause-ind
 take_index-requires-clause-index_value c = right_one _ _ _ c.differs.ensures c.in-None.is
 
 pub walk_with_line-requires : goal.walk_with_line-requires
-walk_with_line-requires c = let right = right_one _ _ _ c.differs.ensures c.in-None.is in let told = c.in-Ok.is in let bytes = c.type_inv.request in record { at_hand = indexed_hand _ _ _ _ c.settle.ensures _ told bytes blank_is _ right _ c.take_index.ensures; t_value = indexed_form _ _ _ _ c.settle.ensures _ told bytes blank_is _ right _ c.take_index.ensures; state_len = search rules }
+walk_with_line-requires c = let right = right_one _ _ _ c.differs.ensures c.in-None.is in let told = c.in-Ok.is in let bytes = c.type_inv.request in record { at_hand = indexed_hand _ _ _ _ c.settle.ensures _ told bytes blank_is _ right _ c.take_index.ensures; state_len = search rules }
 
 pub returns-in-None : goal.returns-in-None
 returns-in-None c =

@@ -1,6 +1,6 @@
 -- The three ways out, as of the walk call; the mode of values is put into the notes of a settled request.
 use Rattle.glintstring.proofs.JudgingLaws.{values_9, values_walked, values_refused}
-use Rattle.glintstring.proofs.SettledAtHand.{values_hand, values_form}
+use Rattle.glintstring.proofs.SettledAtHand.{values_hand}
 use Rattle.verdicts.proofs.ReleasingLaws.{blank_is}
 use borrow.Author.Rules.{rules}
 use Rattle.glintstring.proofs.judging.judge_values.Goals as goal
@@ -11,11 +11,11 @@ returns-then-state-ne-STATE_BYTES c = values_9 _ _ _ _ c.if-state-ne-STATE_BYTES
 pub settle_values-requires : goal.settle_values-requires
 settle_values-requires c = search (rules, blank_is)
 
-pub walk_values-requires : goal.walk_values-requires
-walk_values-requires c = let told = c.in-Ok.is in let bytes = c.type_inv.request in record { at_hand = values_hand _ _ _ _ c.settle_values.ensures _ told bytes blank_is _ c.put.ensures; t_value = values_form _ _ _ _ c.settle_values.ensures _ told bytes blank_is _ c.put.ensures; state_len = search rules }
+pub walk_plan-requires : goal.walk_plan-requires
+walk_plan-requires c = let told = c.in-Ok.is in let bytes = c.type_inv.request in record { at_hand = values_hand _ _ _ _ c.settle_values.ensures _ told bytes blank_is _ c.put.ensures; state_len = search rules }
 
 pub returns-in-Ok : goal.returns-in-Ok
-returns-in-Ok c = values_walked _ _ _ _ c.if-state-ne-STATE_BYTES.false _ _ _ c.settle_values.ensures _ c.in-Ok.is c.type_inv.request blank_is _ c.put.ensures _ c.walk_values.ensures
+returns-in-Ok c = values_walked _ _ _ _ c.if-state-ne-STATE_BYTES.false _ _ _ c.settle_values.ensures _ c.in-Ok.is c.type_inv.request blank_is _ c.put.ensures _ c.walk_plan.ensures
 
 pub returns-in-Err : goal.returns-in-Err
 returns-in-Err c = values_refused _ _ _ _ c.if-state-ne-STATE_BYTES.false _ _ _ c.settle_values.ensures _ c.in-Err.is c.refused.ensures
