@@ -3,7 +3,6 @@ ghost use Rattle.meaning.specs.declared.Layout.TheVariants.{Plain, Closing};
 ghost use Rattle.meaning.specs.Derivations.{check};
 ghost use Rattle.meaning.specs.Limits.{format};
 ghost use Rattle.steps.specs.Held.{request_in};
-ghost use Rattle.steps.specs.AtHand.{AtHand};
 ghost use Rattle.glintstring.specs.CheckCalls.{too_many, check_at_hand};
 ghost use Rattle.meaning.specs.declared.Form.TheVariants.{Flags};
 
@@ -16,6 +15,8 @@ use reading::notes::{Notes, get};
 use refusing::settled::settle;
 use verdicts::answers;
 use verdicts::answers::{refused, uncounted};
+use steps::request::Request;
+use parsing::shapes::OfFlags;
 
 // The layout does not cover this number of whether entries.
 fn is_beyond(layout: Layout, asked: usize) -> bool
@@ -28,17 +29,16 @@ fn is_beyond(layout: Layout, asked: usize) -> bool
 }
 
 // 30, and then the derivation, of a settled request.
-fn check_at_hand(layout: Layout, request: &[u8], t: &Notes, derivation: &[u8]) -> Answer
-    requires { AtHand Flags request.now t.now }
-    ensures { result ≡ check_at_hand layout (request_in Flags request.now t.now) derivation.now }
+fn check_at_hand(layout: Layout, r: &Request<OfFlags>, derivation: &[u8]) -> Answer
+    ensures { result ≡ check_at_hand layout (request_in Flags r.now.bytes.now r.now.notes.now) derivation.now }
 {
-    let goals = get(t, notes::GOALS);
-    let whether = sequence_of(Form::Flags, request, goals);
-    let asked = wide(request[whether]);
+    let goals = get(r.notes, notes::GOALS);
+    let whether = sequence_of(Form::Flags, r.bytes, goals);
+    let asked = wide(r.bytes[whether]);
     if is_beyond(layout, asked) {
         return uncounted(answers::WHETHER_ASKED, answers::THE_REQUEST, whether);
     }
-    match check_derivation(layout, request, t, derivation) {
+    match check_derivation(layout, r.bytes, r.notes, derivation) {
         Ok(_) => uncounted(answers::VERIFIED, answers::NEITHER_INPUT, 0),
         Err(fault) => refused(fault, answers::THE_DERIVATION),
     }
@@ -50,7 +50,7 @@ fn check_as(layout: Layout, request: &[u8], derivation: &[u8]) -> Answer
 {
     let mut t: Notes = [0u16; notes::SLOTS];
     match settle(request, &mut t) {
-        Ok(_) => check_at_hand(layout, request, &t, derivation),
+        Ok(_) => check_at_hand(layout, &Request::of(request, &t), derivation),
         Err(fault) => refused(fault, answers::THE_REQUEST),
     }
 }

@@ -7,7 +7,6 @@ ghost use Rattle.meaning.specs.ByCases.{judge_by_cases, line_by_cases};
 ghost use Rattle.meaning.specs.Indexes.{judge_indexed, line_indexed};
 ghost use Rattle.meaning.specs.Valued.{judge_values};
 ghost use Rattle.steps.specs.Held.{table_in};
-ghost use Rattle.steps.specs.AtHand.{AtHand};
 ghost use Rattle.steps.specs.Steps.{walk_held};
 ghost use Rattle.meaning.specs.declared.Form.TheVariants.{Flags};
 
@@ -24,6 +23,7 @@ use steps::trying::VALUES;
 use verdicts::answers;
 use verdicts::answers::{refused, uncounted};
 use verdicts::walked::walk_plan;
+use steps::request::Request;
 
 // The length of a lent state.
 const STATE_BYTES: usize = limits::FLUENTS;
@@ -32,15 +32,14 @@ const STATE_BYTES: usize = limits::FLUENTS;
 const BY_CASES: usize = 1;
 
 // The walk of a settled request, and the line of the action that stopped it.
-fn walk_with_line(request: &[u8], t: &Notes, state: &mut [u8], budget: u32) -> Judged
-    requires at_hand { AtHand Flags request.now t.now }
-    requires state_len { length state.old ≡ format.state }
-    ensures given { record { answer = result.answer; state = state.new } ≡ within state.old budget (walk_held Flags request.now t.now) }
-    ensures line { result.line ≡ line_told (table_in Flags request.now) request.now (record { answer = result.answer; state = state.new }) }
+fn walk_with_line(r: &Request<OfFlags>, state: &mut [u8], budget: u32) -> Judged
+    requires { length state.old ≡ format.state }
+    ensures given { record { answer = result.answer; state = state.new } ≡ within state.old budget (walk_held Flags r.now.bytes.now r.now.notes.now) }
+    ensures line { result.line ≡ line_told (table_in Flags r.now.bytes.now) r.now.bytes.now (record { answer = result.answer; state = state.new }) }
 {
-    let answer = walk_plan::<OfFlags>(request, t, state, budget);
+    let answer = walk_plan(r, state, budget);
     let line = if answer.number == answers::NOT_EXECUTABLE {
-        line_at(request, t, answer.place, state)
+        line_at(r, answer.place, state)
     } else {
         0
     };
@@ -72,7 +71,7 @@ pub fn judge(request: &[u8], state: &mut [u8], budget: u32) -> Judged
     }
     let mut t: Notes = [0u16; notes::SLOTS];
     match settle(request, &mut t) {
-        Ok(_) => walk_with_line(request, &t, state, budget),
+        Ok(_) => walk_with_line(&Request::of(request, &t), state, budget),
         Err(fault) => without_walk(refused(fault, answers::THE_REQUEST)),
     }
 }
@@ -87,7 +86,7 @@ pub fn judge_guarded(request: &[u8], state: &mut [u8], budget: u32) -> Judged
     }
     let mut t: Notes = [0u16; notes::SLOTS];
     match settle_guarded(request, &mut t) {
-        Ok(_) => walk_with_line(request, &t, state, budget),
+        Ok(_) => walk_with_line(&Request::of(request, &t), state, budget),
         Err(fault) => without_walk(refused(fault, answers::THE_REQUEST)),
     }
 }
@@ -104,7 +103,7 @@ pub fn judge_by_cases(request: &[u8], state: &mut [u8], budget: u32) -> Judged
     match settle(request, &mut t) {
         Ok(_) => {
             put(&mut t, notes::MODE, BY_CASES);
-            walk_with_line(request, &t, state, budget)
+            walk_with_line(&Request::of(request, &t), state, budget)
         }
         Err(fault) => without_walk(refused(fault, answers::THE_REQUEST)),
     }
@@ -123,7 +122,7 @@ pub fn judge_indexed(request: &[u8], index: &[u8], state: &mut [u8], budget: u32
         Ok(_) => match differs(request, &t, index) {
             None => {
                 take_index(request, index, &mut t);
-                walk_with_line(request, &t, state, budget)
+                walk_with_line(&Request::of(request, &t), state, budget)
             }
             Some(p) => without_walk(uncounted(answers::INDEX_DIFFERS, answers::THE_INDEX, p)),
         },
@@ -142,7 +141,7 @@ pub fn judge_values(request: &[u8], state: &mut [u8], budget: u32) -> Answer
     match settle_values(request, &mut t) {
         Ok(_) => {
             put(&mut t, notes::MODE, VALUES);
-            walk_plan::<OfValues>(request, &t, state, budget)
+            walk_plan::<OfValues>(&Request::of(request, &t), state, budget)
         }
         Err(fault) => refused(fault, answers::THE_REQUEST),
     }

@@ -4,7 +4,6 @@ ghost use Rattle.guidance.specs.Guides.{next};
 ghost use Rattle.guidance.specs.Guided.{asked_for};
 ghost use Rattle.meaning.specs.Tests.{both};
 ghost use Rattle.steps.specs.Held.{table_in, plan_in};
-ghost use Rattle.steps.specs.AtHand.{AtHand};
 ghost use Rattle.guide.specs.GuideHeld.{asked_by, fluents_of, is_position, is_marked, guide_held, turned, Begins};
 ghost use Rattle.meaning.specs.declared.Form.TheVariants.{Flags};
 
@@ -17,6 +16,8 @@ use reading::notes::{Notes, get};
 use refusing::settled::settle;
 use steps::onward::start_of;
 use verdicts::answers;
+use steps::request::Request;
+use parsing::shapes::OfFlags;
 
 // Each of the marks is one of the three.
 fn is_marked(marks: &Marks) -> bool
@@ -26,20 +27,18 @@ fn is_marked(marks: &Marks) -> bool
 }
 
 // An item of the plan, or its end.
-fn is_position(s: &[u8], t: &Notes, at: usize) -> bool
-    requires { AtHand Flags s.now t.now }
-    ensures { result ≡ is_position (plan_in Flags s.now t.now) at }
+fn is_position(r: &Request<OfFlags>, at: usize) -> bool
+    ensures { result ≡ is_position (plan_in Flags r.now.bytes.now r.now.notes.now) at }
 {
-    at == limits::ITEMS || at < get(t, notes::ITEMS)
+    at == limits::ITEMS || at < get(r.notes, notes::ITEMS)
 }
 
 // A position of the plan, with marks.
-fn is_going(s: &[u8], t: &Notes, at: usize, marks: &Marks) -> bool
-    requires { AtHand Flags s.now t.now }
-    ensures value { result ≡ both (is_position (plan_in Flags s.now t.now) at) (is_marked marks.now) }
+fn is_going(r: &Request<OfFlags>, at: usize, marks: &Marks) -> bool
+    ensures value { result ≡ both (is_position (plan_in Flags r.now.bytes.now r.now.notes.now) at) (is_marked marks.now) }
     ensures marks_len { length marks.now ≡ format.state }
 {
-    is_position(s, t, at) && is_marked(marks)
+    is_position(r, at) && is_marked(marks)
 }
 
 // A call of a guide with this request, whose plan is at `at` with `marks` and which waits for the readings of `action`. The request is read again.
@@ -55,8 +54,9 @@ pub(crate) fn call(
     let mut t: Notes = [0u16; notes::SLOTS];
     match settle(request, &mut t) {
         Ok(_) => {
-            if is_going(request, &t, at, marks) {
-                answer_call(request, &t, action, at, marks, readings)
+            let r = Request::of(request, &t);
+            if is_going(&r, at, marks) {
+                answer_call(&r, action, at, marks, readings)
             } else {
                 refused_step(NOT_VERIFIED)
             }
@@ -100,12 +100,11 @@ pub(crate) fn none_asked() -> Fluents
 }
 
 // Those that an action senses, and none where there was no action.
-fn asked_after(s: &[u8], t: &Notes, action: Option<usize>) -> Fluents
-    requires { AtHand Flags s.now t.now }
-    ensures { result ≡ fluents_of (asked_by (table_in Flags s.now) action) }
+fn asked_after(r: &Request<OfFlags>, action: Option<usize>) -> Fluents
+    ensures { result ≡ fluents_of (asked_by (table_in Flags r.now.bytes.now) action) }
 {
     match action {
-        Some(a) if a < limits::ACTIONS => sensed_by(s, t, a),
+        Some(a) if a < limits::ACTIONS => sensed_by(r, a),
         _ => none_asked(),
     }
 }
@@ -117,8 +116,9 @@ pub(crate) fn asked(request: &[u8], action: Option<usize>, at: usize, marks: &Ma
     let mut t: Notes = [0u16; notes::SLOTS];
     match settle(request, &mut t) {
         Ok(_) => {
-            if is_going(request, &t, at, marks) {
-                asked_after(request, &t, action)
+            let r = Request::of(request, &t);
+            if is_going(&r, at, marks) {
+                asked_after(&r, action)
             } else {
                 none_asked()
             }

@@ -14,5 +14,5 @@ returns-in-Some c = search (asked_are, after_some)
 
 pub returns-in_default : goal.returns-in_default
 returns-in_default c =
-    let none : asked_by (table_in Flags c.args.s.now) c.args.action ≡ [] = elim c.in_default.branch [ in_default-via-in-Some+else-a-lt-ACTIONS w ↦ search after_large | in_default-via-in_default w ↦ search after_none ] in
+    let none : asked_by (table_in Flags c.args.r.now.bytes.now) c.args.action ≡ [] = elim c.in_default.branch [ in_default-via-in-Some+else-a-lt-ACTIONS w ↦ search after_large | in_default-via-in_default w ↦ search after_none ] in
     search asked_are

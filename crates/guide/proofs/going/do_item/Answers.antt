@@ -3,8 +3,8 @@ use Rattle.steps.proofs.OnwardLaws.{item_inside}
 use Rattle.guide.proofs.TurnLaws.{action_low, item_refused, item_sensing, item_acting}
 use Rattle.guide.proofs.going.do_item.Goals as goal
 
-pub bounds-s-get : goal.bounds-s-get
-bounds-s-get c = search item_inside
+pub bounds-r-get : goal.bounds-r-get
+bounds-r-get c = search item_inside
 
 pub can_be_run-requires-clause-a_lt_actions : goal.can_be_run-requires-clause-a_lt_actions
 can_be_run-requires-clause-a_lt_actions c = search action_low

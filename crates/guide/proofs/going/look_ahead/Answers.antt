@@ -6,8 +6,8 @@ use Rattle.guide.proofs.going.look_ahead.Goals as goal
 pub loop-i-init : goal.loop-i-init
 loop-i-init c = search looking_starts
 
-pub bounds-s-get : goal.bounds-s-get
-bounds-s-get c = search (item_inside, looking_there)
+pub bounds-r-get : goal.bounds-r-get
+bounds-r-get c = search (item_inside, looking_there)
 
 pub returns-then-s-get-clause-result_value : goal.returns-then-s-get-clause-result_value
 returns-then-s-get-clause-result_value c = search looking_action

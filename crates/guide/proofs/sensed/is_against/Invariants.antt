@@ -5,4 +5,4 @@ use Rattle.meaning.specs.declared.Form.TheVariants.{Flags}
 use Rattle.guide.proofs.sensed.is_against.Given as goal
 
 abbrev pub invariant-loop-f : goal.invariant-loop-f
-invariant-loop-f l = AgainstLeft (table_in Flags l.s) l.a l.marks l.readings l.i l.f
+invariant-loop-f l = AgainstLeft (table_in Flags l.r.bytes.now) l.a l.marks l.readings l.i l.f

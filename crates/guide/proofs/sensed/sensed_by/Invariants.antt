@@ -5,4 +5,4 @@ use Rattle.meaning.specs.declared.Form.TheVariants.{Flags}
 use Rattle.guide.proofs.sensed.sensed_by.Given as goal
 
 abbrev pub invariant-loop-f : goal.invariant-loop-f
-invariant-loop-f l = SensedRow (table_in Flags l.s) l.a l.row l.count l.f
+invariant-loop-f l = SensedRow (table_in Flags l.r.bytes.now) l.a l.row l.count l.f

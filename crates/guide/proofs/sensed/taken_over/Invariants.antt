@@ -5,4 +5,4 @@ use Rattle.meaning.specs.declared.Form.TheVariants.{Flags}
 use Rattle.guide.proofs.sensed.taken_over.Given as goal
 
 abbrev pub invariant-loop-f : goal.invariant-loop-f
-invariant-loop-f l = TakenLeft (table_in Flags l.s) l.a l.marks l.readings l.state l.i l.f
+invariant-loop-f l = TakenLeft (table_in Flags l.r.bytes.now) l.a l.marks l.readings l.state l.i l.f
