@@ -4,7 +4,6 @@ ghost use Rattle.meaning.specs.Literals.{among};
 ghost use Rattle.meaning.specs.Derivations.{for_lists, citations_taken, a_rule, cited_by, given_by, check_lines};
 ghost use Rattle.parsing.specs.Read.{over, passed};
 ghost use Rattle.steps.specs.Held.{table_in};
-ghost use Rattle.steps.specs.AtHand.{AtHand};
 ghost use Rattle.checking.specs.Checked.{lines_in, line_in, spot_in, AllStand, Numbered, CitesEarlier, all_below, numbers_from, refused_by, number_or_none};
 ghost use Rattle.meaning.specs.declared.Form.TheVariants.{Flags};
 
@@ -15,10 +14,12 @@ use derivation::rule_numbers as rules;
 use meaning::Layout;
 use parsing::bytes::{two, wide};
 use parsing::faults::{Fault, Refusal};
+use parsing::shapes::OfFlags;
 use reading::notes::Notes;
 use ruling::branchings::rule_4;
 use ruling::readings::rule_3;
 use ruling::rules::{rule_1, rule_2, rule_5, rule_6, rule_7, rule_8};
+use steps::request::Request;
 
 // A rule of the layout.
 fn is_rule(layout: Layout, rule: usize) -> bool
@@ -83,8 +84,7 @@ fn gives(
     layout: Layout,
     n: usize,
     m: usize,
-    s: &[u8],
-    t: &Notes,
+    r: &Request<OfFlags>,
     d: &[u8],
     u: &mut Notes,
     places: &Places,
@@ -93,24 +93,23 @@ fn gives(
     l: Spot,
     rule: usize,
 ) -> bool
-    requires at_hand { AtHand Flags s.now t.now }
     requires numbered { Numbered layout n m d.now places.now lines i }
     requires l_value { l ≡ spot_in layout d.now places.now i }
     requires rule_value { rule ≡ for_lists (line_in layout n m d.now i).rule }
     requires cites_earlier { CitesEarlier layout n m d.now i }
-    ensures { result ≡ given_by format (table_in Flags s.now) rule (cited_by (lines_in layout n m d.now) (line_in layout n m d.now i)) (line_in layout n m d.now i) }
+    ensures { result ≡ given_by format (table_in Flags r.now.bytes.now) rule (cited_by (lines_in layout n m d.now) (line_in layout n m d.now i)) (line_in layout n m d.now i) }
 {
     if rule == rules::EMPTY_RULE {
         return rule_1(d, l);
     }
     if rule == rules::ACTION_RULE {
-        return rule_2(s, t, d, l);
+        return rule_2(r, d, l);
     }
     if rule == rules::SENSING_RULE {
-        return rule_3(layout, s, t, d, places, lines, i, l);
+        return rule_3(layout, r, d, places, lines, i, l);
     }
     if rule == rules::LOOK_RULE {
-        return rule_7(s, t, d, l);
+        return rule_7(r, d, l);
     }
     let one = two(d[l.cites + 1], d[l.cites + 2]);
     let cited = spot_of(layout, d, places, lines, one);
@@ -133,17 +132,15 @@ fn line_refused(
     layout: Layout,
     n: usize,
     m: usize,
-    s: &[u8],
-    t: &Notes,
+    r: &Request<OfFlags>,
     d: &[u8],
     u: &mut Notes,
     places: &Places,
     lines: usize,
     i: usize,
 ) -> Option<Refusal>
-    requires at_hand { AtHand Flags s.now t.now }
-    requires numbered { Numbered layout n m d.now places.now lines i }
-    ensures { number_or_none result ≡ refused_by layout (table_in Flags s.now) (lines_in layout n m d.now) i (line_in layout n m d.now i) }
+    requires { Numbered layout n m d.now places.now lines i }
+    ensures { number_or_none result ≡ refused_by layout (table_in Flags r.now.bytes.now) (lines_in layout n m d.now) i (line_in layout n m d.now i) }
 {
     let l = spot_of(layout, d, places, lines, i);
     if !is_rule(layout, l.rule) {
@@ -157,7 +154,7 @@ fn line_refused(
     if !all_earlier(d, l.cites + 1, count, i) {
         return Some(Refusal::NotEarlier);
     }
-    if !gives(layout, n, m, s, t, d, u, places, lines, i, l, rule) {
+    if !gives(layout, n, m, r, d, u, places, lines, i, l, rule) {
         return Some(Refusal::DoesNotFollow);
     }
     None
@@ -168,19 +165,17 @@ pub fn check_lines(
     layout: Layout,
     n: usize,
     m: usize,
-    s: &[u8],
-    t: &Notes,
+    r: &Request<OfFlags>,
     d: &[u8],
     u: &mut Notes,
     places: &Places,
     lines: usize,
 ) -> Result<usize, Fault>
-    requires at_hand { AtHand Flags s.now t.now }
-    requires all_stand { AllStand layout n m d.now places.now lines }
-    ensures { over result ≡ passed (check_lines format layout (table_in Flags s.now) (lines_in layout n m d.now) 0 (lines_in layout n m d.now)) }
+    requires { AllStand layout n m d.now places.now lines }
+    ensures { over result ≡ passed (check_lines format layout (table_in Flags r.now.bytes.now) (lines_in layout n m d.now) 0 (lines_in layout n m d.now)) }
 {
     for i in 0..lines {
-        if let Some(refusal) = line_refused(layout, n, m, s, t, d, u, places, lines, i) {
+        if let Some(refusal) = line_refused(layout, n, m, r, d, u, places, lines, i) {
             return Err(refusal.at(place_of(places, i)));
         }
     }

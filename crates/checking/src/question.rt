@@ -4,7 +4,6 @@ ghost use Rattle.meaning.specs.declared.Layout.TheVariants.{Closing};
 ghost use Rattle.meaning.specs.Derivations.{asks_for};
 ghost use Rattle.reading.specs.Listed.{ListHere};
 ghost use Rattle.steps.specs.Held.{request_in};
-ghost use Rattle.steps.specs.AtHand.{AtHand};
 ghost use Rattle.comparing.specs.RuleAnswers.{SomeStands, SomeLines, Ruled};
 ghost use Rattle.checking.specs.Asked.{conclusion_asked, begins, Names, SomeDerivation, EntriesChecked, ClosingChecked, EndChecked};
 ghost use Rattle.meaning.specs.declared.Form.TheVariants.{Flags};
@@ -19,8 +18,10 @@ use finding::branches::sequence_of;
 use meaning::{Form, Layout};
 use parsing::bytes::{two, wide};
 use parsing::faults::{Fault, Refusal};
+use parsing::shapes::OfFlags;
 use reading::notes;
-use reading::notes::{Notes, get};
+use reading::notes::get;
+use steps::request::Request;
 
 // What a line is asked to conclude: the goals of the request, or that a fluent is known whether.
 #[derive(Clone, Copy)]
@@ -30,51 +31,54 @@ pub enum Asked {
 }
 
 // The line's X is the initial facts, and its plan is that of the request.
-fn from_the_facts(s: &[u8], t: &Notes, d: &[u8], l: Spot) -> bool
-    requires at_hand { AtHand Flags s.now t.now }
-    requires some_stands { SomeStands d.now l }
-    ensures { Ruled d.now l (begins (request_in Flags s.now t.now)) result }
+fn from_the_facts(r: &Request<OfFlags>, d: &[u8], l: Spot) -> bool
+    requires { SomeStands d.now l }
+    ensures { Ruled d.now l (begins (request_in Flags r.now.bytes.now r.now.notes.now)) result }
 {
     let plan = sequence_of(Form::Flags, d, l.line);
-    same_lists(d, l.line, s, 2)
-        && same_plans(d, plan, l.end, s, get(t, notes::PLAN), get(t, notes::GOALS))
+    same_lists(d, l.line, r.bytes, 2)
+        && same_plans(
+            d,
+            plan,
+            l.end,
+            r.bytes,
+            get(r.notes, notes::PLAN),
+            get(r.notes, notes::GOALS),
+        )
 }
 
 // The line is the question for what is asked: the initial facts, the plan, and that conclusion.
-fn asks(s: &[u8], t: &Notes, d: &[u8], l: Spot, asked: Asked) -> bool
-    requires at_hand { AtHand Flags s.now t.now }
-    requires some_stands { SomeStands d.now l }
-    ensures { Ruled d.now l (asks_for (request_in Flags s.now t.now) (conclusion_asked (request_in Flags s.now t.now) asked)) result }
+fn asks(r: &Request<OfFlags>, d: &[u8], l: Spot, asked: Asked) -> bool
+    requires { SomeStands d.now l }
+    ensures { Ruled d.now l (asks_for (request_in Flags r.now.bytes.now r.now.notes.now) (conclusion_asked (request_in Flags r.now.bytes.now r.now.notes.now) asked)) result }
 {
-    if !from_the_facts(s, t, d, l) {
+    if !from_the_facts(r, d, l) {
         return false;
     }
     match asked {
-        Asked::Goals => !l.fluent && same_lists(d, l.conclusion, s, get(t, notes::GOALS)),
+        Asked::Goals => !l.fluent
+            && same_lists(d, l.conclusion, r.bytes, get(r.notes, notes::GOALS)),
         Asked::Fluent(f) => l.fluent && d[l.conclusion] == f,
     }
 }
 
 // The two-byte number at `at` is that of a line, and this is the question for what is asked.
 fn names(
-    s: &[u8],
-    t: &Notes,
+    r: &Request<OfFlags>,
     d: &[u8],
     places: &Places,
     lines: usize,
     at: usize,
     asked: Asked,
 ) -> bool
-    requires at_hand { AtHand Flags s.now t.now }
     requires some_lines { SomeLines Closing d.now places.now lines }
     requires at_in_bounds { at + 1 < length d.now }
-    ensures { Names (request_in Flags s.now t.now) d.now places.now lines at asked result }
+    ensures { Names (request_in Flags r.now.bytes.now r.now.notes.now) d.now places.now lines at asked result }
 {
     let number = two(d[at], d[at + 1]);
     number < lines
         && asks(
-            s,
-            t,
+            r,
             d,
             spot_of(Layout::Closing, d, places, lines, number),
             asked,
@@ -83,30 +87,27 @@ fn names(
 
 // Each entry of the whether list at `whether` is asked of the line that is named by the next number, the first of which is at `first`.
 fn check_fluents(
-    s: &[u8],
-    t: &Notes,
+    r: &Request<OfFlags>,
     d: &[u8],
     places: &Places,
     lines: usize,
     whether: usize,
     first: usize,
 ) -> Result<usize, Fault>
-    requires at_hand { AtHand Flags s.now t.now }
     requires some_lines { SomeLines Closing d.now places.now lines }
-    requires list_here { ListHere format.fluents s.now whether }
-    requires whether_in_bounds { first + 2 * get_or s.now whether 0 ≤ length d.now }
-    ensures { EntriesChecked s.now t.now d.now places.now lines whether first result }
+    requires list_here { ListHere format.fluents r.now.bytes.now whether }
+    requires whether_in_bounds { first + 2 * get_or r.now.bytes.now whether 0 ≤ length d.now }
+    ensures { EntriesChecked r.now.bytes.now r.now.notes.now d.now places.now lines whether first result }
 {
-    for k in 0..wide(s[whether]) {
+    for k in 0..wide(r.bytes[whether]) {
         let at = first + 2 * k;
         if !names(
-            s,
-            t,
+            r,
             d,
             places,
             lines,
             at,
-            Asked::Fluent(s[whether + k + 1]),
+            Asked::Fluent(r.bytes[whether + k + 1]),
         ) {
             return Err(Refusal::ClosingNotRight.at(at));
         }
@@ -116,54 +117,50 @@ fn check_fluents(
 
 // The closing list: its length, then the goals, then each whether entry.
 fn check_closing(
-    s: &[u8],
-    t: &Notes,
+    r: &Request<OfFlags>,
     d: &[u8],
     places: &Places,
     lines: usize,
 ) -> Result<usize, Fault>
-    requires at_hand { AtHand Flags s.now t.now }
-    requires some_derivation { SomeDerivation Closing d.now places.now lines }
-    ensures { ClosingChecked (request_in Flags s.now t.now) d.now places.now lines result }
+    requires { SomeDerivation Closing d.now places.now lines }
+    ensures { ClosingChecked (request_in Flags r.now.bytes.now r.now.notes.now) d.now places.now lines result }
 {
-    let goals = get(t, notes::GOALS);
-    let whether = sequence_of(Form::Flags, s, goals);
-    let due = 1 + wide(s[whether]);
+    let goals = get(r.notes, notes::GOALS);
+    let whether = sequence_of(Form::Flags, r.bytes, goals);
+    let due = 1 + wide(r.bytes[whether]);
     let closing = place_of(places, derivations::LINES_END);
     let count = wide(d[closing]);
     if count != due {
         return Err(Refusal::ClosingNotRight.at(closing));
     }
     let first = closing + 1;
-    if !names(s, t, d, places, lines, first, Asked::Goals) {
+    if !names(r, d, places, lines, first, Asked::Goals) {
         return Err(Refusal::ClosingNotRight.at(first));
     }
-    check_fluents(s, t, d, places, lines, whether, closing + 3)
+    check_fluents(r, d, places, lines, whether, closing + 3)
 }
 
 // The question, by the last line or by the closing list. Answered: the place 0.
 pub fn check_end(
     layout: Layout,
-    s: &[u8],
-    t: &Notes,
+    r: &Request<OfFlags>,
     d: &[u8],
     places: &Places,
     lines: usize,
 ) -> Result<usize, Fault>
-    requires at_hand { AtHand Flags s.now t.now }
     requires some_derivation { SomeDerivation layout d.now places.now lines }
     requires le_lines { 1 ≤ lines }
-    ensures { EndChecked layout (request_in Flags s.now t.now) d.now places.now lines result }
+    ensures { EndChecked layout (request_in Flags r.now.bytes.now r.now.notes.now) d.now places.now lines result }
 {
     match layout {
         Layout::Plain => {
             let l = spot_of(Layout::Plain, d, places, lines, lines - 1);
-            if asks(s, t, d, l, Asked::Goals) {
+            if asks(r, d, l, Asked::Goals) {
                 Ok(0)
             } else {
                 Err(Refusal::NotTheQuestion.at(l.line))
             }
         }
-        Layout::Closing => check_closing(s, t, d, places, lines),
+        Layout::Closing => check_closing(r, d, places, lines),
     }
 }

@@ -38,7 +38,7 @@ fn check_at_hand(layout: Layout, r: &Request<OfFlags>, derivation: &[u8]) -> Ans
     if is_beyond(layout, asked) {
         return uncounted(answers::WHETHER_ASKED, answers::THE_REQUEST, whether);
     }
-    match check_derivation(layout, r.bytes, r.notes, derivation) {
+    match check_derivation(layout, r, derivation) {
         Ok(_) => uncounted(answers::VERIFIED, answers::NEITHER_INPUT, 0),
         Err(fault) => refused(fault, answers::THE_DERIVATION),
     }

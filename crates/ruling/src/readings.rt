@@ -3,7 +3,7 @@ ghost use Rattle.meaning.specs.Derivations.{rule_3};
 ghost use Rattle.meaning.specs.Limits.{format};
 ghost use Rattle.derivation.specs.DerivationRead.{plan_ends_slot};
 ghost use Rattle.steps.specs.Held.{table_in};
-ghost use Rattle.steps.specs.AtHand.{AtHand, Marked};
+ghost use Rattle.steps.specs.AtHand.{Marked};
 ghost use Rattle.comparing.specs.Stands.{spot_at};
 ghost use Rattle.comparing.specs.RuleAnswers.{SomeLine, SomeLines, CitedBelow, RuledByAll};
 ghost use Rattle.ruling.specs.Readings.{states_from, StandsSome, SomeFollows, SaysReading, SomeRest, Uses};
@@ -18,9 +18,10 @@ use finding::branches::sequence_of;
 use meaning::{Form, Layout};
 use parsing::bytes::{two, wide};
 use parsing::limits;
+use parsing::shapes::OfFlags;
 use reading::marks::{Marks, state_of};
-use reading::notes::Notes;
 use steps::actions::can_be_run;
+use steps::request::Request;
 use steps::sensing::{first_unknown, is_sensing, next_unknown};
 
 // The line `cited` says what the state knows, what follows the first item of the line `own`, and that line's conclusion.
@@ -71,8 +72,7 @@ fn one_reading(
 // limit of fluents there is none, and the state is a reading.
 fn each_reading(
     layout: Layout,
-    s: &[u8],
-    t: &Notes,
+    r: &Request<OfFlags>,
     d: &[u8],
     places: &Places,
     a: usize,
@@ -82,56 +82,53 @@ fn each_reading(
     i: usize,
     k: usize,
 ) -> Option<usize>
-    requires at_hand { AtHand Flags s.now t.now }
     requires a_lt_actions { a < format.actions }
     requires marked { Marked marks }
     requires i_lt_lines { i < lines }
     requires some_rest { SomeRest layout d.now places.now lines (spot_at layout d.now (get_or places.now i 0) (get_or places.now (plan_ends_slot + i) 0)) }
-    ensures { Uses layout d.now places.now (spot_at layout d.now (get_or places.now i 0) (get_or places.now (plan_ends_slot + i) 0)) (states_from (table_in Flags s.now) a marks f) k result }
+    ensures { Uses layout d.now places.now (spot_at layout d.now (get_or places.now i 0) (get_or places.now (plan_ends_slot + i) 0)) (states_from (table_in Flags r.now.bytes.now) a marks f) k result }
 {
     if limits::FLUENTS <= f {
         return one_reading(layout, d, places, &marks, lines, i, k);
     }
     let mut state = marks;
     state[f] = limits::TRUE_MARK;
-    let g = next_unknown(Form::Flags, s, t, a, f + 1, &state);
-    let j = each_reading(layout, s, t, d, places, a, g, state, lines, i, k)?;
+    let g = next_unknown(r, a, f + 1, &state);
+    let j = each_reading(layout, r, d, places, a, g, state, lines, i, k)?;
     state[f] = limits::FALSE_MARK;
-    each_reading(layout, s, t, d, places, a, g, state, lines, i, j)
+    each_reading(layout, r, d, places, a, g, state, lines, i, j)
 }
 
 // Rules 3 and 10, for line i: a sensing action first that can be run in X; one line for each reading in the walk's order: X with the
 // reading, the rest, and the line's own conclusion.
 pub fn rule_3(
     layout: Layout,
-    s: &[u8],
-    t: &Notes,
+    r: &Request<OfFlags>,
     d: &[u8],
     places: &Places,
     lines: usize,
     i: usize,
     l: Spot,
 ) -> bool
-    requires at_hand { AtHand Flags s.now t.now }
     requires some_line { SomeLine d.now l }
     requires some_lines { SomeLines layout d.now places.now lines }
     requires i_lt_lines { i < lines }
     requires l_value { l ≡ spot_at layout d.now (get_or places.now i 0) (get_or places.now (plan_ends_slot + i) 0) }
     requires cited_below { CitedBelow d.now l lines }
-    ensures { RuledByAll layout d.now places.now l (rule_3 format (table_in Flags s.now)) result }
+    ensures { RuledByAll layout d.now places.now l (rule_3 format (table_in Flags r.now.bytes.now)) result }
 {
     let plan = sequence_of(Form::Flags, d, l.line);
     if count_of(d, plan) == 0 || d[plan + 2] == limits::BRANCHING_BYTE {
         return false;
     }
     let a = wide(d[plan + 2]);
-    if !is_sensing(Form::Flags, s, t, a) {
+    if !is_sensing(r, a) {
         return false;
     }
     let marks = state_of(d, l.line);
-    if !can_be_run(s, t, a, &marks) {
+    if !can_be_run(r, a, &marks) {
         return false;
     }
-    let f = first_unknown(Form::Flags, s, t, a, &marks);
-    each_reading(layout, s, t, d, places, a, f, marks, lines, i, 0) == Some(wide(d[l.cites]))
+    let f = first_unknown(r, a, &marks);
+    each_reading(layout, r, d, places, a, f, marks, lines, i, 0) == Some(wide(d[l.cites]))
 }

@@ -1,7 +1,6 @@
 ghost use Rattle.meaning.specs.Derivations.{rule_1, rule_2, rule_5, rule_6, rule_7, rule_8};
 ghost use Rattle.meaning.specs.Limits.{format};
 ghost use Rattle.steps.specs.Held.{table_in};
-ghost use Rattle.steps.specs.AtHand.{AtHand};
 ghost use Rattle.comparing.specs.RuleAnswers.{SomeLine, Ruled, RuledBy, RuledByTwo};
 ghost use Rattle.meaning.specs.declared.Form.TheVariants.{Flags};
 
@@ -13,9 +12,10 @@ use finding::branches::{empty, sequence_of};
 use meaning::Form;
 use parsing::bytes::wide;
 use parsing::limits;
+use parsing::shapes::OfFlags;
 use reading::marks::state_of;
-use reading::notes::Notes;
 use steps::actions::{can_be_run, state_after};
+use steps::request::Request;
 use steps::sensing::{is_sensing, looks_at};
 
 // In what follows a line is told by where its parts stand. Rule 1: the empty plan, and Y = X.
@@ -31,10 +31,9 @@ pub fn rule_1(d: &[u8], l: Spot) -> bool
 }
 
 // Rule 2: one action without knowledge lines that can be run in X, and Y is the state after it.
-pub fn rule_2(s: &[u8], t: &Notes, d: &[u8], l: Spot) -> bool
-    requires at_hand { AtHand Flags s.now t.now }
-    requires some_line { SomeLine d.now l }
-    ensures { Ruled d.now l (rule_2 format (table_in Flags s.now)) result }
+pub fn rule_2(r: &Request<OfFlags>, d: &[u8], l: Spot) -> bool
+    requires { SomeLine d.now l }
+    ensures { Ruled d.now l (rule_2 format (table_in Flags r.now.bytes.now)) result }
 {
     if l.fluent {
         return false;
@@ -44,11 +43,11 @@ pub fn rule_2(s: &[u8], t: &Notes, d: &[u8], l: Spot) -> bool
         return false;
     }
     let a = wide(d[plan + 2]);
-    if is_sensing(Form::Flags, s, t, a) {
+    if is_sensing(r, a) {
         return false;
     }
     let marks = state_of(d, l.line);
-    can_be_run(s, t, a, &marks) && lists_known(&state_after(s, t, a, &marks), d, l.conclusion)
+    can_be_run(r, a, &marks) && lists_known(&state_after(r, a, &marks), d, l.conclusion)
 }
 
 // Rules 5 and 11: X c' Z by the line `one` and then Z c'' by the line `two`, with the conclusion of the line itself.
@@ -98,10 +97,9 @@ pub fn rule_6(d: &[u8], cited: Spot, l: Spot) -> bool
 }
 
 // Rule 7: one action that can be run in X and has a knowledge line for the fluent.
-pub fn rule_7(s: &[u8], t: &Notes, d: &[u8], l: Spot) -> bool
-    requires at_hand { AtHand Flags s.now t.now }
-    requires some_line { SomeLine d.now l }
-    ensures { Ruled d.now l (rule_7 format (table_in Flags s.now)) result }
+pub fn rule_7(r: &Request<OfFlags>, d: &[u8], l: Spot) -> bool
+    requires { SomeLine d.now l }
+    ensures { Ruled d.now l (rule_7 format (table_in Flags r.now.bytes.now)) result }
 {
     if !l.fluent {
         return false;
@@ -111,7 +109,7 @@ pub fn rule_7(s: &[u8], t: &Notes, d: &[u8], l: Spot) -> bool
         return false;
     }
     let a = wide(d[plan + 2]);
-    looks_at(s, t, a, wide(d[l.conclusion])) && can_be_run(s, t, a, &state_of(d, l.line))
+    looks_at(r, a, wide(d[l.conclusion])) && can_be_run(r, a, &state_of(d, l.line))
 }
 
 // Rule 8: X c by the line `cited`, with a list of one literal of the fluent.

@@ -5,8 +5,8 @@ use Rattle.checking.proofs.each_line.check_lines.Goals as goal
 pub loop-i-init : goal.loop-i-init
 loop-i-init c = search checking_start
 
-pub line_refused-requires-clause-numbered : goal.line_refused-requires-clause-numbered
-line_refused-requires-clause-numbered c = search line_numbered
+pub line_refused-requires : goal.line_refused-requires
+line_refused-requires c = search line_numbered
 
 pub place_of-requires : goal.place_of-requires
 place_of-requires c = search index_few

@@ -6,4 +6,4 @@ use Rattle.meaning.specs.declared.Form.TheVariants.{Flags}
 use Rattle.checking.proofs.each_line.check_lines.Given as goal
 
 abbrev pub invariant-loop-i : goal.invariant-loop-i
-invariant-loop-i l = Checking l.layout (table_in Flags l.s) (lines_in l.layout l.n l.m l.d) l.i
+invariant-loop-i l = Checking l.layout (table_in Flags l.r.bytes.now) (lines_in l.layout l.n l.m l.d) l.i

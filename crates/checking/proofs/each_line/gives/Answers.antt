@@ -8,8 +8,8 @@ rule_1-requires c = search own_some
 pub returns-then-rule-eq-EMPTY_RULE : goal.returns-then-rule-eq-EMPTY_RULE
 returns-then-rule-eq-EMPTY_RULE c = search by_empty
 
-pub rule_2-requires-clause-some_line : goal.rule_2-requires-clause-some_line
-rule_2-requires-clause-some_line c = search own_some
+pub rule_2-requires : goal.rule_2-requires
+rule_2-requires c = search own_some
 
 pub returns-then-rule-eq-ACTION_RULE : goal.returns-then-rule-eq-ACTION_RULE
 returns-then-rule-eq-ACTION_RULE c = search by_action
@@ -32,8 +32,8 @@ rule_3-requires-clause-cited_below c = search cited_below
 pub returns-then-rule-eq-SENSING_RULE : goal.returns-then-rule-eq-SENSING_RULE
 returns-then-rule-eq-SENSING_RULE c = search by_sensing
 
-pub rule_7-requires-clause-some_line : goal.rule_7-requires-clause-some_line
-rule_7-requires-clause-some_line c = search own_some
+pub rule_7-requires : goal.rule_7-requires
+rule_7-requires c = search own_some
 
 pub returns-then-rule-eq-LOOK_RULE : goal.returns-then-rule-eq-LOOK_RULE
 returns-then-rule-eq-LOOK_RULE c = search by_look

@@ -7,8 +7,8 @@ use Rattle.checking.proofs.question.check_closing.Goals as goal
 pub sequence_of-whether-requires : goal.sequence_of-whether-requires
 sequence_of-whether-requires c = search goals_here
 
-pub bounds-s-whether : goal.bounds-s-whether
-bounds-s-whether c = search (list_there, whether_here)
+pub bounds-r-whether : goal.bounds-r-whether
+bounds-r-whether c = search (list_there, whether_here)
 
 pub overflow_add-due : goal.overflow_add-due
 overflow_add-due c = search (rules, sum_fits)
@@ -26,7 +26,7 @@ pub names-requires-clause-some_lines : goal.names-requires-clause-some_lines
 names-requires-clause-some_lines c = search closing_lines
 
 pub names-requires-clause-at_in_bounds : goal.names-requires-clause-at_in_bounds
-names-requires-clause-at_in_bounds c = goals_number _ _ _ _ c.place_of-closing.ensures c.requires.some_derivation _ c.wide-count.ensures _ c.if-count-due.false
+names-requires-clause-at_in_bounds c = goals_number _ _ _ _ c.place_of-closing.ensures c.requires _ c.wide-count.ensures _ c.if-count-due.false
 
 pub overflow_add-closing : goal.overflow_add-closing
 overflow_add-closing c = search fluents_fit
@@ -38,7 +38,7 @@ pub check_fluents-requires-clause-list_here : goal.check_fluents-requires-clause
 check_fluents-requires-clause-list_here c = search whether_here
 
 pub check_fluents-requires-clause-whether_in_bounds : goal.check_fluents-requires-clause-whether_in_bounds
-check_fluents-requires-clause-whether_in_bounds c = fluents_numbers _ _ _ _ c.place_of-closing.ensures c.requires.some_derivation _ c.wide-count.ensures _ c.if-count-due.false _ c.wide-due.ensures
+check_fluents-requires-clause-whether_in_bounds c = fluents_numbers _ _ _ _ c.place_of-closing.ensures c.requires _ c.wide-count.ensures _ c.if-count-due.false _ c.wide-due.ensures
 
 pub returns-then-not-names : goal.returns-then-not-names
 returns-then-not-names c = search goals_wrong

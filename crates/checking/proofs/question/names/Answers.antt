@@ -2,8 +2,8 @@
 use Rattle.checking.proofs.ClosingLaws.{line_some, named, not_named}
 use Rattle.checking.proofs.question.names.Goals as goal
 
-pub asks-requires-clause-some_stands : goal.asks-requires-clause-some_stands
-asks-requires-clause-some_stands c = search line_some
+pub asks-requires : goal.asks-requires
+asks-requires c = search line_some
 
 pub returns-then-number-lines : goal.returns-then-number-lines
 returns-then-number-lines c = search named

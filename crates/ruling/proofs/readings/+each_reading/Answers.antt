@@ -12,13 +12,13 @@ pub next_unknown-g-requires-clause-marked_as : goal.next_unknown-g-requires-clau
 next_unknown-g-requires-clause-marked_as t c = search first_marked
 
 pub each_reading-requires : goal.each_reading-requires
-each_reading-requires t c = (search next_falls, (search rules, (search rules, (search first_marked, search rules))))
+each_reading-requires t c = (search next_falls, (search rules, (search first_marked, search rules)))
 
 pub returns-in_err-j : goal.returns-in_err-j
 returns-in_err-j t c = rw c.from_residual.ensures (search (first_fails, c.in_err-j.was))
 
 pub each_reading-requires-2 : goal.each_reading-requires-2
-each_reading-requires-2 t c = (search next_falls, (search rules, (search rules, (search second_marked, search rules))))
+each_reading-requires-2 t c = (search next_falls, (search rules, (search second_marked, search rules)))
 
 pub returns : goal.returns
 returns t c = search (both_read, c.in_ok-j.was)

@@ -24,14 +24,14 @@ overflow_add-plan-2 c = search items_fit
 pub bounds-d-plan-2 : goal.bounds-d-plan-2
 bounds-d-plan-2 c = search items_there
 
-pub is_sensing-requires-clause-a_lt_actions : goal.is_sensing-requires-clause-a_lt_actions
-is_sensing-requires-clause-a_lt_actions c = search action_small
+pub is_sensing-requires : goal.is_sensing-requires
+is_sensing-requires c = search action_small
 
 pub returns-then-not-is_sensing : goal.returns-then-not-is_sensing
 returns-then-not-is_sensing c = search not_sensing
 
-pub can_be_run-requires-clause-a_lt_actions : goal.can_be_run-requires-clause-a_lt_actions
-can_be_run-requires-clause-a_lt_actions c = search action_small
+pub can_be_run-requires : goal.can_be_run-requires
+can_be_run-requires c = search action_small
 
 pub returns-then-not-can_be_run : goal.returns-then-not-can_be_run
 returns-then-not-can_be_run c = search not_run

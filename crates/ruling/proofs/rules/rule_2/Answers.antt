@@ -27,14 +27,14 @@ overflow_add-plan-2 c = search items_fit
 pub bounds-d-plan-2 : goal.bounds-d-plan-2
 bounds-d-plan-2 c = search item_there
 
-pub is_sensing-requires-clause-a_lt_actions : goal.is_sensing-requires-clause-a_lt_actions
-is_sensing-requires-clause-a_lt_actions c = search action_small
+pub is_sensing-requires : goal.is_sensing-requires
+is_sensing-requires c = search action_small
 
 pub returns-then-is_sensing : goal.returns-then-is_sensing
 returns-then-is_sensing c = search action_senses
 
-pub can_be_run-requires-clause-a_lt_actions : goal.can_be_run-requires-clause-a_lt_actions
-can_be_run-requires-clause-a_lt_actions c = search action_small
+pub can_be_run-requires : goal.can_be_run-requires
+can_be_run-requires c = search action_small
 
 pub state_after-requires-clause-a_lt_actions : goal.state_after-requires-clause-a_lt_actions
 state_after-requires-clause-a_lt_actions c = search action_small

@@ -35,8 +35,8 @@ looks_at-requires-clause-a_lt_actions c = search action_small
 pub looks_at-requires-clause-f_lt_fluents : goal.looks_at-requires-clause-f_lt_fluents
 looks_at-requires-clause-f_lt_fluents c = search (fluent_small, not-false)
 
-pub can_be_run-requires-clause-a_lt_actions : goal.can_be_run-requires-clause-a_lt_actions
-can_be_run-requires-clause-a_lt_actions c = search action_small
+pub can_be_run-requires : goal.can_be_run-requires
+can_be_run-requires c = search action_small
 
 pub returns-then-looks_at : goal.returns-then-looks_at
 returns-then-looks_at c = search (looks_there, not-false)
