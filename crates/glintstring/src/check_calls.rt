@@ -10,13 +10,13 @@ use checking::check::check_derivation;
 use finding::branches::sequence_of;
 use meaning::{Answer, Form, Layout};
 use parsing::bytes::wide;
+use parsing::shapes::OfFlags;
 use reading::notes;
 use reading::notes::{Notes, get};
 use refusing::settled::settle;
+use steps::request::Request;
 use verdicts::answers;
 use verdicts::answers::{refused, uncounted};
-use steps::request::Request;
-use parsing::shapes::OfFlags;
 
 // The layout does not cover this number of whether entries.
 fn is_beyond(layout: Layout, asked: usize) -> bool

@@ -21,11 +21,11 @@ use reading::notes;
 use reading::notes::{Notes, get, put};
 use refusing::settled::settle;
 use schemes::scheme::{measure, write};
+use steps::request::Request;
 use steps::trying::NARROW;
 use verdicts::answers;
 use verdicts::answers::{refused, uncounted};
 use verdicts::walked::walk_plan;
-use steps::request::Request;
 
 // The lines of a request whose walk is fine go to the room, where they fit: 38 and 39 are known before the first is written.
 fn write_lines(r: &Request<OfFlags>, room: &mut [u8]) -> Answer

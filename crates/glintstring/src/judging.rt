@@ -19,11 +19,11 @@ use parsing::shapes::{OfFlags, OfValues};
 use reading::notes;
 use reading::notes::{Notes, put};
 use refusing::settled::{settle, settle_guarded, settle_values};
+use steps::request::Request;
 use steps::trying::VALUES;
 use verdicts::answers;
 use verdicts::answers::{refused, uncounted};
 use verdicts::walked::walk_plan;
-use steps::request::Request;
 
 // The length of a lent state.
 const STATE_BYTES: usize = limits::FLUENTS;

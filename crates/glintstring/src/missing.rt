@@ -8,10 +8,10 @@ ghost use Rattle.meaning.specs.declared.Form.TheVariants.{Flags};
 use meaning::Runs;
 use parsing::bytes::wide;
 use parsing::limits;
+use parsing::shapes::OfFlags;
 use reading::marks::Marks;
 use steps::actions::ask;
 use steps::request::Request;
-use parsing::shapes::OfFlags;
 
 // A place of a request, which has two bytes.
 fn narrowed(place: usize) -> u32

@@ -7,8 +7,8 @@ use Rattle.glintstring.proofs.check_calls.check_at_hand.Goals as goal
 pub sequence_of-whether-requires : goal.sequence_of-whether-requires
 sequence_of-whether-requires c = search (rules, goals_here)
 
-pub bounds-request-whether : goal.bounds-request-whether
-bounds-request-whether c = search (rules, whether_inside)
+pub bounds-r-whether : goal.bounds-r-whether
+bounds-r-whether c = search (rules, whether_inside)
 
 pub returns-then-is_beyond : goal.returns-then-is_beyond
 returns-then-is_beyond c = search (rules, check_30)

@@ -14,12 +14,14 @@ returns-then-state-ne-STATE_BYTES c =
 pub settle-requires : goal.settle-requires
 settle-requires c = search (rules, blank_is)
 
-pub walk_with_line-requires : goal.walk_with_line-requires
-walk_with_line-requires c = let told = c.in-Ok.is in let bytes = c.type_inv.request in record { at_hand = cases_hand _ _ _ _ c.settle.ensures _ told bytes blank_is _ c.put.ensures; state_len = search rules }
+pub of-requires : goal.of-requires
+of-requires c = let told = c.in-Ok.is in let bytes = c.type_inv.request in cases_hand _ _ _ _ c.settle.ensures _ told bytes blank_is _ c.put.ensures
 
 pub returns-in-Ok : goal.returns-in-Ok
 returns-in-Ok c =
-    let both = cases_walked _ _ _ _ _ c.if-state-ne-STATE_BYTES.false _ _ _ c.settle.ensures _ c.in-Ok.is c.type_inv.request blank_is _ c.put.ensures _ c.walk_with_line.ensures.given c.walk_with_line.ensures.line in
+    let given = rw (c.of.ensures.bytes, c.of.ensures.notes) at c.walk_with_line.ensures.given in
+    let line = rw c.of.ensures.bytes at c.walk_with_line.ensures.line in
+    let both = cases_walked _ _ _ _ _ c.if-state-ne-STATE_BYTES.false _ _ _ c.settle.ensures _ c.in-Ok.is c.type_inv.request blank_is _ c.put.ensures _ given line in
     record { given = both.0; line = both.1 }
 
 pub returns-in-Err : goal.returns-in-Err

@@ -23,13 +23,15 @@ take_index-requires-clause-table_here c = settled_table _ _ _ _ c.settle.ensures
 pub take_index-requires-clause-index_value : goal.take_index-requires-clause-index_value
 take_index-requires-clause-index_value c = right_one _ _ _ c.differs.ensures c.in-None.is
 
-pub walk_with_line-requires : goal.walk_with_line-requires
-walk_with_line-requires c = let right = right_one _ _ _ c.differs.ensures c.in-None.is in let told = c.in-Ok.is in let bytes = c.type_inv.request in record { at_hand = indexed_hand _ _ _ _ c.settle.ensures _ told bytes blank_is _ right _ c.take_index.ensures; state_len = search rules }
+pub of-requires : goal.of-requires
+of-requires c = let right = right_one _ _ _ c.differs.ensures c.in-None.is in let told = c.in-Ok.is in let bytes = c.type_inv.request in indexed_hand _ _ _ _ c.settle.ensures _ told bytes blank_is _ right _ c.take_index.ensures
 
 pub returns-in-None : goal.returns-in-None
 returns-in-None c =
+    let given = rw (c.of.ensures.bytes, c.of.ensures.notes) at c.walk_with_line.ensures.given in
+    let line = rw c.of.ensures.bytes at c.walk_with_line.ensures.line in
     let right = right_one _ _ _ c.differs.ensures c.in-None.is in
-    let both = indexed_walked _ _ _ _ _ _ c.if-state-ne-STATE_BYTES.false _ _ _ c.settle.ensures _ c.in-Ok.is c.type_inv.request blank_is right _ c.take_index.ensures _ c.walk_with_line.ensures.given c.walk_with_line.ensures.line in
+    let both = indexed_walked _ _ _ _ _ _ c.if-state-ne-STATE_BYTES.false _ _ _ c.settle.ensures _ c.in-Ok.is c.type_inv.request blank_is right _ c.take_index.ensures _ given line in
     record { given = both.0; line = both.1 }
 
 pub returns-in-Some : goal.returns-in-Some
