@@ -11,7 +11,7 @@ ghost use Rattle.meaning.specs.declared.Form.TheVariants.{Flags};
 
 use comparing::parts::same_lists;
 use comparing::plans::same_plans;
-use comparing::spots::{Spot, spot_of};
+use comparing::spots::{Concludes, Spot, spot_of};
 use derivation::derivations;
 use derivation::derivations::Places;
 use derivation::derived::place_of;
@@ -21,13 +21,6 @@ use parsing::bytes::{two, wide};
 use parsing::faults::{Fault, Refusal};
 use reading::notes;
 use reading::notes::{Notes, get};
-
-// What a line is asked to conclude: the goals of the request, or that a fluent is known whether.
-#[derive(Clone, Copy)]
-pub enum Asked {
-    Goals,
-    Fluent(u8),
-}
 
 // The line's X is the initial facts, and its plan is that of the request.
 fn from_the_facts(s: &[u8], t: &Notes, d: &[u8], l: Spot) -> bool
@@ -40,8 +33,9 @@ fn from_the_facts(s: &[u8], t: &Notes, d: &[u8], l: Spot) -> bool
         && same_plans(d, plan, l.end, s, get(t, notes::PLAN), get(t, notes::GOALS))
 }
 
-// The line is the question for what is asked: the initial facts, the plan, and that conclusion.
-fn asks(s: &[u8], t: &Notes, d: &[u8], l: Spot, asked: Asked) -> bool
+// The line is the question: the initial facts, the plan, and as its conclusion that the fluent is known whether or, where none is asked for, the
+// goals.
+fn asks(s: &[u8], t: &Notes, d: &[u8], l: Spot, asked: Option<u8>) -> bool
     requires at_hand { AtHand Flags s.now t.now }
     requires some_stands { SomeStands d.now l }
     ensures { Ruled d.now l (asks_for (request_in Flags s.now t.now) (conclusion_asked (request_in Flags s.now t.now) asked)) result }
@@ -49,13 +43,14 @@ fn asks(s: &[u8], t: &Notes, d: &[u8], l: Spot, asked: Asked) -> bool
     if !from_the_facts(s, t, d, l) {
         return false;
     }
-    match asked {
-        Asked::Goals => !l.fluent && same_lists(d, l.conclusion, s, get(t, notes::GOALS)),
-        Asked::Fluent(f) => l.fluent && d[l.conclusion] == f,
+    match (asked, l.conclusion) {
+        (None, Concludes::Literals(at)) => same_lists(d, at, s, get(t, notes::GOALS)),
+        (Some(f), Concludes::Fluent(g)) => f == g,
+        _ => false,
     }
 }
 
-// The two-byte number at `at` is that of a line, and this is the question for what is asked.
+// The two-byte number at `at` is that of a line, and this is the question.
 fn names(
     s: &[u8],
     t: &Notes,
@@ -63,7 +58,7 @@ fn names(
     places: &Places,
     lines: usize,
     at: usize,
-    asked: Asked,
+    asked: Option<u8>,
 ) -> bool
     requires at_hand { AtHand Flags s.now t.now }
     requires some_lines { SomeLines Closing d.now places.now lines }
@@ -106,7 +101,7 @@ fn check_fluents(
             places,
             lines,
             at,
-            Asked::Fluent(s[whether + k + 1]),
+            Some(s[whether + k + 1]),
         ) {
             return Err(Refusal::ClosingNotRight.at(at));
         }
@@ -135,7 +130,7 @@ fn check_closing(
         return Err(Refusal::ClosingNotRight.at(closing));
     }
     let first = closing + 1;
-    if !names(s, t, d, places, lines, first, Asked::Goals) {
+    if !names(s, t, d, places, lines, first, None) {
         return Err(Refusal::ClosingNotRight.at(first));
     }
     check_fluents(s, t, d, places, lines, whether, closing + 3)
@@ -158,7 +153,7 @@ pub fn check_end(
     match layout {
         Layout::Plain => {
             let l = spot_of(Layout::Plain, d, places, lines, lines - 1);
-            if asks(s, t, d, l, Asked::Goals) {
+            if asks(s, t, d, l, None) {
                 Ok(0)
             } else {
                 Err(Refusal::NotTheQuestion.at(l.line))

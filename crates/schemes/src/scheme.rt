@@ -7,6 +7,7 @@ ghost use Rattle.meaning.specs.Lines.{sensing};
 ghost use Rattle.meaning.specs.Derivations.{goals_of};
 ghost use Rattle.meaning.specs.Walk.{Verified};
 ghost use Rattle.meaning.specs.Schemes.{line_of, derivation_of, derivation_bytes, narrow_walk_of};
+ghost use Rattle.parsing.specs.Rules.{rule_number};
 ghost use Rattle.reading.specs.Planned.{items_of};
 ghost use Rattle.steps.specs.Held.{table_in, plan_in, request_in};
 ghost use Rattle.steps.specs.AtHand.{AtHand, Marked};
@@ -20,6 +21,7 @@ ghost use Rattle.meaning.specs.declared.Form.TheVariants.{Flags};
 use meaning::Form;
 use parsing::bytes::wide;
 use parsing::limits;
+use parsing::rules::Rule;
 use reading::marks::{Marks, state_of};
 use reading::notes;
 use reading::notes::{Notes, get};
@@ -29,7 +31,6 @@ use steps::sensing::{first_unknown, is_sensing, next_unknown};
 use writing::cites::Cites;
 use writing::lines::{Progress, put_action, put_empty, put_goals};
 use writing::room::put_number;
-use writing::rule_bytes;
 
 // The line by a rule that cites the line before it.
 fn put_next(
@@ -37,7 +38,7 @@ fn put_next(
     t: &Notes,
     at: usize,
     marks: &Marks,
-    rule: u8,
+    rule: Rule,
     room: &mut [u8],
     progress: &mut Progress,
 )
@@ -46,7 +47,7 @@ fn put_next(
     requires marked { Marked marks.now }
     requires underway { Underway progress.old }
     requires progress_nonzero { 0 < progress.old.lines }
-    ensures { Put (line_of marks.now (rest_at (plan_in Flags s.now t.now) at) (goals_of (request_in Flags s.now t.now)) rule ((progress.old.lines - 1) ∷ []) ∷ []) progress.old room.old progress.new room.new }
+    ensures { Put (line_of marks.now (rest_at (plan_in Flags s.now t.now) at) (goals_of (request_in Flags s.now t.now)) (rule_number rule) ((progress.old.lines - 1) ∷ []) ∷ []) progress.old room.old progress.new room.new }
 {
     let mut cites = Cites::none();
     let previous = progress.lines - 1;
@@ -67,7 +68,7 @@ fn put_end(s: &[u8], t: &Notes, marks: &Marks, room: &mut [u8], progress: &mut P
         t,
         limits::ITEMS,
         marks,
-        rule_bytes::CONSEQUENCE_RULE,
+        Rule::Consequence,
         room,
         progress,
     );
@@ -100,7 +101,7 @@ fn put_composed(
         t,
         at,
         marks,
-        rule_bytes::COMPOSITION_RULE,
+        Rule::Composition,
         &cites,
         room,
         progress,
@@ -158,7 +159,7 @@ fn put_branching(
 {
     if let Some(at) = chosen(Form::Flags, s, t, i, marks) {
         put_from(s, t, at, marks, room, progress);
-        put_next(s, t, i, marks, rule_bytes::BRANCHING_RULE, room, progress);
+        put_next(s, t, i, marks, Rule::Branching, room, progress);
     }
 }
 
@@ -218,7 +219,7 @@ fn put_sensing(
         t,
         i,
         marks,
-        rule_bytes::SENSING_RULE,
+        Rule::Sensing,
         &cites,
         room,
         progress,
