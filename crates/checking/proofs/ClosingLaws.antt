@@ -18,7 +18,7 @@ use Rattle.meaning.specs.Requests.{Request}
 use Rattle.meaning.specs.Reading.{Got, got, fault}
 use Rattle.meaning.specs.Derivations.{Conclusion, knows_whether, Line, Derivation, asks_for, goals_of, check_last, all_asked, names, check_entries, check_closing, check_end}
 use Rattle.meaning.proofs.TestLaws.{pick_true, pick_false}
-use Rattle.std.specs.Prelude.{Ok, Err}
+use Rattle.std.specs.Prelude.{Option, Some, None, Ok, Err}
 use Rattle.parsing.specs.declared.faults.Fault.{Fault}
 use Rattle.parsing.specs.declared.faults.Refusal.TheVariants.{NotTheQuestion, ClosingNotRight}
 use Rattle.parsing.specs.Read.{Passed, passed}
@@ -33,8 +33,6 @@ use Rattle.steps.specs.AtHand.{AtHand}
 use Rattle.comparing.specs.declared.spots.Spot.{Spot}
 use Rattle.comparing.specs.Stands.{NumbersStand, Stands, spot_at, LinesStand, ClosingStands}
 use Rattle.comparing.specs.RuleAnswers.{SomeStands, SomeLines, Ruled}
-use Rattle.checking.specs.declared.question.Asked.{Asked}
-use Rattle.checking.specs.declared.question.Asked.TheVariants.{Goals, Fluent}
 use Rattle.checking.specs.Checked.{no_line}
 use Rattle.checking.specs.Asked.{conclusion_asked, Names, EntriesChecked, DerivationStands, SomeDerivation, ClosingChecked, EndChecked}
 use Rattle.checking.proofs.EachLineLaws.{numbers_room}
@@ -61,7 +59,7 @@ module _ (layout : Layout) (d places : List ℕ) (count number : ℕ) (below : n
   pub line_some : SomeLines layout d places count → SomeStands d l
   line_some some = record { line = get_or some.lines number no_line; stands = line_stands some.lines some.stand some.size }
 
-module _ (r : Request) (d places : List ℕ) (count at : ℕ) (asked : Asked) (number : ℕ) (read : number ≡ get_or d at 0 * 256 + get_or d (at + 1) 0) where
+module _ (r : Request) (d places : List ℕ) (count at : ℕ) (asked : Option ℕ) (number : ℕ) (read : number ≡ get_or d at 0 * 256 + get_or d (at + 1) 0) where
   pub named : number < count → (l : Spot) → l ≡ spot_at Closing d (get_or places number 0) (get_or places (plan_ends_slot + number) 0) → (answer : Bool) → Ruled d l (asks_for r (conclusion_asked r asked)) answer
       → Names r d places count at asked answer
   named below l is answer ruled =
@@ -169,7 +167,7 @@ module _ (s t d places : List ℕ) (count whether first : ℕ) where
           split [] stand size same = absurd (omega (arith, size, more))
           split (k ∷ ks) stand size same = record { number = k; numbers = ks; read = stand.1; stand = stand.2; size = omega (arith, size, more); same = same }
 
-      module _ (good : Bool) (asked : Names (request_in Flags s t) d places count at (Fluent (get_or s (i + 1) 0)) good) where
+      module _ (good : Bool) (asked : Names (request_in Flags s t) d places count at (Some (get_or s (i + 1) 0)) good) where
         good_is : (ls : List Line) (whole : Got (Unit {0})) (now : Next ls whole) → LinesStand Closing d places ls → length ls ≡ count → good ≡ names (request_in Flags s t) ls now.number (knows_whether (get_or s (i + 1) 0))
         unfolding conclusion_asked
         good_is ls whole now stand size = asked.holds ls stand size ∙ ap (λ (k : ℕ). names (request_in Flags s t) ls k (knows_whether (get_or s (i + 1) 0))) now.read
@@ -224,7 +222,7 @@ module _ (layout : Layout) (d places : List ℕ) (count : ℕ) where
       pub last_some : SomeDerivation layout d places count → SomeStands d l
       last_some given = line_some Plain d places count (count - 1) (omega (arith, least)) l is (plain_lines given)
 
-      module _ (r : Request) (asked : Bool) (tested : Ruled d l (asks_for r (conclusion_asked r Goals)) asked) where
+      module _ (r : Request) (asked : Bool) (tested : Ruled d l (asks_for r (conclusion_asked r None)) asked) where
         last_is : (x : Derivation) → DerivationStands layout d places count x → check_end layout r x ≡ pick asked (λ _. got tt 0) (λ _. fault 35 l.line)
         unfolding check_end conclusion_asked
         last_is x stands =
@@ -361,7 +359,7 @@ module _ (d places : List ℕ) (count closing : ℕ) (at-closing : closing ≡ g
                   same = whole ∙ ap (check_entries (request_in Flags s t) x.lines (closing + 1) (goals_of (request_in Flags s t) ∷ map knows_whether (listed s whether))) e;
                 }
 
-        module _ (good : Bool) (asked : Names (request_in Flags s t) d places count (closing + 1) Goals good) where
+        module _ (good : Bool) (asked : Names (request_in Flags s t) d places count (closing + 1) None good) where
           good_names : (x : Derivation) → DerivationStands Closing d places count x → (c : Closed x) → good ≡ names (request_in Flags s t) x.lines c.first (goals_of (request_in Flags s t))
           unfolding conclusion_asked
           good_names x stands c = asked.holds x.lines stands.stand stands.size ∙ ap (λ (k : ℕ). names (request_in Flags s t) x.lines k (goals_of (request_in Flags s t))) c.told

@@ -3,17 +3,18 @@ ghost use Rattle.meaning.specs.Limits.{format};
 ghost use Rattle.meaning.specs.Literals.{among};
 ghost use Rattle.meaning.specs.Derivations.{for_lists, citations_taken, a_rule, cited_by, given_by, check_lines};
 ghost use Rattle.parsing.specs.Read.{over, passed};
+ghost use Rattle.parsing.specs.Rules.{rule_number};
 ghost use Rattle.steps.specs.Held.{table_in};
 ghost use Rattle.checking.specs.Checked.{lines_in, line_in, spot_in, AllStand, Numbered, CitesEarlier, all_below, numbers_from, refused_by, number_or_none};
 ghost use Rattle.meaning.specs.declared.Form.TheVariants.{Flags};
 
-use comparing::spots::{Spot, spot_of};
+use comparing::spots::{Spot, cited_of, spot_of};
 use derivation::derivations::Places;
 use derivation::derived::place_of;
-use derivation::rule_numbers as rules;
 use meaning::Layout;
 use parsing::bytes::{two, wide};
 use parsing::faults::{Fault, Refusal};
+use parsing::rules::Rule;
 use parsing::shapes::OfFlags;
 use reading::notes::Notes;
 use ruling::branchings::rule_4;
@@ -22,26 +23,31 @@ use ruling::rules::{rule_1, rule_2, rule_5, rule_6, rule_7, rule_8};
 use steps::request::Request;
 
 // A rule of the layout.
-fn is_rule(layout: Layout, rule: usize) -> bool
-    ensures { result ≡ a_rule layout rule }
+fn is_rule(layout: Layout, rule: Rule) -> bool
+    ensures { result ≡ a_rule layout (rule_number rule) }
 {
     match layout {
-        Layout::Plain => matches!(rule, rules::EMPTY_RULE..=rules::CONSEQUENCE_RULE),
-        Layout::Closing => matches!(
+        Layout::Plain => matches!(
             rule,
-            rules::EMPTY_RULE..=rules::LITERAL_RULE | rules::SENSING_WHETHER_RULE..=rules::BRANCHING_WHETHER_RULE
+            Rule::Empty
+                | Rule::Action
+                | Rule::Sensing
+                | Rule::Branching
+                | Rule::Composition
+                | Rule::Consequence
         ),
+        Layout::Closing => true,
     }
 }
 
 // The rule that asks the same of lists.
-fn rule_for_lists(rule: usize) -> usize
-    ensures { result ≡ for_lists rule }
+fn rule_for_lists(rule: Rule) -> Rule
+    ensures { rule_number result ≡ for_lists (rule_number rule) }
 {
     match rule {
-        rules::SENSING_WHETHER_RULE => rules::SENSING_RULE,
-        rules::COMPOSITION_WHETHER_RULE => rules::COMPOSITION_RULE,
-        rules::BRANCHING_WHETHER_RULE => rules::BRANCHING_RULE,
+        Rule::SensingWhether => Rule::Sensing,
+        Rule::CompositionWhether => Rule::Composition,
+        Rule::BranchingWhether => Rule::Branching,
         _ => rule,
     }
 }
@@ -54,13 +60,13 @@ fn readings(count: usize) -> bool
 }
 
 // The rule, one for lists or 7 or 8, takes this number of citations.
-fn takes(rule: usize, count: usize) -> bool
-    ensures { result ≡ among count (citations_taken rule) }
+fn takes(rule: Rule, count: usize) -> bool
+    ensures { result ≡ among count (citations_taken (rule_number rule)) }
 {
     match rule {
-        rules::EMPTY_RULE | rules::ACTION_RULE | rules::LOOK_RULE => count == 0,
-        rules::SENSING_RULE => readings(count),
-        rules::COMPOSITION_RULE => count == 2,
+        Rule::Empty | Rule::Action | Rule::Look => count == 0,
+        Rule::Sensing => readings(count),
+        Rule::Composition => count == 2,
         _ => count == 1,
     }
 }
@@ -91,40 +97,37 @@ fn gives(
     lines: usize,
     i: usize,
     l: Spot,
-    rule: usize,
+    rule: Rule,
 ) -> bool
     requires numbered { Numbered layout n m d.now places.now lines i }
     requires l_value { l ≡ spot_in layout d.now places.now i }
-    requires rule_value { rule ≡ for_lists (line_in layout n m d.now i).rule }
+    requires rule_value { rule_number rule ≡ for_lists (line_in layout n m d.now i).rule }
     requires cites_earlier { CitesEarlier layout n m d.now i }
-    ensures { result ≡ given_by format (table_in Flags r.now.bytes.now) rule (cited_by (lines_in layout n m d.now) (line_in layout n m d.now i)) (line_in layout n m d.now i) }
+    ensures { result ≡ given_by format (table_in Flags r.now.bytes.now) (rule_number rule) (cited_by (lines_in layout n m d.now) (line_in layout n m d.now i)) (line_in layout n m d.now i) }
 {
-    if rule == rules::EMPTY_RULE {
-        return rule_1(d, l);
+    match rule {
+        Rule::Empty => rule_1(d, l),
+        Rule::Action => rule_2(r, d, l),
+        Rule::Sensing => rule_3(layout, r, d, places, lines, i, l),
+        Rule::Branching => {
+            let cited = cited_of(layout, d, places, lines, l, 0);
+            rule_4(n, m, d, u, cited, l)
+        }
+        Rule::Composition => {
+            let first = cited_of(layout, d, places, lines, l, 0);
+            let second = cited_of(layout, d, places, lines, l, 1);
+            rule_5(d, first, second, l)
+        }
+        Rule::Consequence => {
+            let cited = cited_of(layout, d, places, lines, l, 0);
+            rule_6(d, cited, l)
+        }
+        Rule::Look => rule_7(r, d, l),
+        _ => {
+            let cited = cited_of(layout, d, places, lines, l, 0);
+            rule_8(d, cited, l)
+        }
     }
-    if rule == rules::ACTION_RULE {
-        return rule_2(r, d, l);
-    }
-    if rule == rules::SENSING_RULE {
-        return rule_3(layout, r, d, places, lines, i, l);
-    }
-    if rule == rules::LOOK_RULE {
-        return rule_7(r, d, l);
-    }
-    let one = two(d[l.cites + 1], d[l.cites + 2]);
-    let cited = spot_of(layout, d, places, lines, one);
-    if rule == rules::BRANCHING_RULE {
-        return rule_4(n, m, d, u, cited, l);
-    }
-    if rule == rules::COMPOSITION_RULE {
-        let other = two(d[l.cites + 3], d[l.cites + 4]);
-        let second = spot_of(layout, d, places, lines, other);
-        return rule_5(d, cited, second, l);
-    }
-    if rule == rules::CONSEQUENCE_RULE {
-        return rule_6(d, cited, l);
-    }
-    rule_8(d, cited, l)
 }
 
 // Why line i is refused: 31, 33, 32 or 34; nothing where it follows.
@@ -143,10 +146,13 @@ fn line_refused(
     ensures { number_or_none result ≡ refused_by layout (table_in Flags r.now.bytes.now) (lines_in layout n m d.now) i (line_in layout n m d.now i) }
 {
     let l = spot_of(layout, d, places, lines, i);
-    if !is_rule(layout, l.rule) {
+    let Some(said) = l.rule else {
+        return Some(Refusal::NoSuchRule);
+    };
+    if !is_rule(layout, said) {
         return Some(Refusal::NoSuchRule);
     }
-    let rule = rule_for_lists(l.rule);
+    let rule = rule_for_lists(said);
     let count = wide(d[l.cites]);
     if !takes(rule, count) {
         return Some(Refusal::CitationsNotTaken);

@@ -10,7 +10,7 @@ ghost use Rattle.meaning.specs.declared.Form.TheVariants.{Flags};
 
 use comparing::parts::same_lists;
 use comparing::plans::same_plans;
-use comparing::spots::{Spot, spot_of};
+use comparing::spots::{Concludes, Spot, spot_of};
 use derivation::derivations;
 use derivation::derivations::Places;
 use derivation::derived::place_of;
@@ -22,13 +22,6 @@ use parsing::shapes::OfFlags;
 use reading::notes;
 use reading::notes::get;
 use steps::request::Request;
-
-// What a line is asked to conclude: the goals of the request, or that a fluent is known whether.
-#[derive(Clone, Copy)]
-pub enum Asked {
-    Goals,
-    Fluent(u8),
-}
 
 // The line's X is the initial facts, and its plan is that of the request.
 fn from_the_facts(r: &Request<OfFlags>, d: &[u8], l: Spot) -> bool
@@ -47,29 +40,30 @@ fn from_the_facts(r: &Request<OfFlags>, d: &[u8], l: Spot) -> bool
         )
 }
 
-// The line is the question for what is asked: the initial facts, the plan, and that conclusion.
-fn asks(r: &Request<OfFlags>, d: &[u8], l: Spot, asked: Asked) -> bool
+// The line is the question: the initial facts, the plan, and as its conclusion that the fluent is known whether or, where none is asked for, the
+// goals.
+fn asks(r: &Request<OfFlags>, d: &[u8], l: Spot, asked: Option<u8>) -> bool
     requires { SomeStands d.now l }
     ensures { Ruled d.now l (asks_for (request_in Flags r.now.bytes.now r.now.notes.now) (conclusion_asked (request_in Flags r.now.bytes.now r.now.notes.now) asked)) result }
 {
     if !from_the_facts(r, d, l) {
         return false;
     }
-    match asked {
-        Asked::Goals => !l.fluent
-            && same_lists(d, l.conclusion, r.bytes, get(r.notes, notes::GOALS)),
-        Asked::Fluent(f) => l.fluent && d[l.conclusion] == f,
+    match (asked, l.conclusion) {
+        (None, Concludes::Literals(at)) => same_lists(d, at, r.bytes, get(r.notes, notes::GOALS)),
+        (Some(f), Concludes::Fluent(g)) => f == g,
+        _ => false,
     }
 }
 
-// The two-byte number at `at` is that of a line, and this is the question for what is asked.
+// The two-byte number at `at` is that of a line, and this is the question.
 fn names(
     r: &Request<OfFlags>,
     d: &[u8],
     places: &Places,
     lines: usize,
     at: usize,
-    asked: Asked,
+    asked: Option<u8>,
 ) -> bool
     requires some_lines { SomeLines Closing d.now places.now lines }
     requires at_in_bounds { at + 1 < length d.now }
@@ -101,14 +95,7 @@ fn check_fluents(
 {
     for k in 0..wide(r.bytes[whether]) {
         let at = first + 2 * k;
-        if !names(
-            r,
-            d,
-            places,
-            lines,
-            at,
-            Asked::Fluent(r.bytes[whether + k + 1]),
-        ) {
+        if !names(r, d, places, lines, at, Some(r.bytes[whether + k + 1])) {
             return Err(Refusal::ClosingNotRight.at(at));
         }
     }
@@ -134,7 +121,7 @@ fn check_closing(
         return Err(Refusal::ClosingNotRight.at(closing));
     }
     let first = closing + 1;
-    if !names(r, d, places, lines, first, Asked::Goals) {
+    if !names(r, d, places, lines, first, None) {
         return Err(Refusal::ClosingNotRight.at(first));
     }
     check_fluents(r, d, places, lines, whether, closing + 3)
@@ -155,7 +142,7 @@ pub fn check_end(
     match layout {
         Layout::Plain => {
             let l = spot_of(Layout::Plain, d, places, lines, lines - 1);
-            if asks(r, d, l, Asked::Goals) {
+            if asks(r, d, l, None) {
                 Ok(0)
             } else {
                 Err(Refusal::NotTheQuestion.at(l.line))

@@ -8,7 +8,7 @@ use mathlib.Core.List.{List, ◌∷◌}
 use lib.ListN.{length, set}
 use lib.Dec.{ltb, eqb}
 use borrow.Author.Tests.{lt-ltb, le-ltb, eq-eqb, ne_eqb, eqb-true, eqb-false}
-use Rattle.std.specs.Prelude.{Ok, Err}
+use Rattle.std.specs.Prelude.{Ok, Err, Option, Some, None}
 use Rattle.parsing.specs.declared.faults.Fault.{Fault}
 use Rattle.meaning.specs.declared.Layout.{Layout}
 use Rattle.meaning.specs.declared.Layout.TheVariants.{Plain, Closing}
@@ -28,6 +28,10 @@ use Rattle.parsing.specs.Read.{Numbered, Passed, numbered, over, stopped, passed
 use Rattle.reading.specs.Noted.{noting, outcome}
 use Rattle.reading.specs.Planned.{bytes_of, plan_noted, noting_met, outcome_met}
 use Rattle.derivation.specs.DerivationRead.{plan_end, places_noted, derivation_noted, citing, ending, ended_at, planned, lined, plan_ends_slot, lines_end}
+use Rattle.parsing.specs.declared.rules.Rule.{Rule}
+use Rattle.parsing.specs.declared.rules.Rule.TheVariants.{Look, Literal, SensingWhether, CompositionWhether, BranchingWhether}
+use Rattle.parsing.specs.Rules.{rule_number, rule_of, number_or_none}
+use Rattle.parsing.proofs.RuleNumbers.{rule_has, none_has}
 use Rattle.parsing.proofs.ByteLaws.{was_read, was_stopped}
 use Rattle.parsing.proofs.ByteLaws.{read_value}
 use Rattle.parsing.proofs.ListLaws.{passed_same, passed_to, passed_stop, whole_stops}
@@ -68,55 +72,23 @@ module _ (s : List ℕ) (p : ℕ) (count : Numbered) (read : numbered count ≡ 
   unfolding citing next
   cites_whole c r end is e = rw (was_read (count_at 0 format.citations s p) count c r read is) e
 
--- THE CONCLUSION. The rules that conclude a fluent: 7 and 8, and 10 to 12.
-module _ (rule : ℕ) where
-  fluent_by_7 : rule ≡ 7 → true ≡ concludes_fluent rule
-  unfolding concludes_fluent among some_of
-  fluent_by_7 e = sym (either_left _ _ (eq-eqb rule 7 e))
+-- THE CONCLUSION. A byte concludes a fluent where the rule that it says does, and none where it says no rule.
+pub concludes_as : (rule : ℕ) (said : Option Rule) → said ≡ rule_of rule → concludes_fluent (number_or_none said) ≡ concludes_fluent rule
+unfolding concludes_fluent among some_of either
+concludes_as rule (Some r) is = ap concludes_fluent (rule_has rule r (sym is))
+concludes_as rule None is = sym (rw (other Look, other Literal, other SensingWhether, other CompositionWhether, other BranchingWhether) refl)
+  where
+    other : (r : Rule) → eqb rule (rule_number r) ≡ false
+    other r = ne_eqb rule (rule_number r) (none_has rule (sym is) r)
 
-  fluent_by_8 : rule ≡ 8 → true ≡ concludes_fluent rule
-  unfolding concludes_fluent among some_of
-  fluent_by_8 e = sym (either_right _ _ (either_left _ _ (eq-eqb rule 8 e)))
+module _ (n : ℕ) (s : List ℕ) (rule p : ℕ) (said : Option Rule) (told : said ≡ rule_of rule) (fluent : Bool) (which : fluent ≡ concludes_fluent (number_or_none said)) where
+  which_is : fluent ≡ concludes_fluent rule
+  which_is = which ∙ concludes_as rule said told
 
-  fluent_by_10 : rule ≡ 10 → true ≡ concludes_fluent rule
-  unfolding concludes_fluent among some_of
-  fluent_by_10 e = sym (either_right _ _ (either_right _ _ (either_left _ _ (eq-eqb rule 10 e))))
-
-  fluent_by_11 : rule ≡ 11 → true ≡ concludes_fluent rule
-  unfolding concludes_fluent among some_of
-  fluent_by_11 e = sym (either_right _ _ (either_right _ _ (either_right _ _ (either_left _ _ (eq-eqb rule 11 e)))))
-
-  fluent_by_12 : rule ≡ 12 → true ≡ concludes_fluent rule
-  unfolding concludes_fluent among some_of
-  fluent_by_12 e = sym (either_right _ _ (either_right _ _ (either_right _ _ (either_right _ _ (either_left _ _ (eq-eqb rule 12 e))))))
-
-  pub fluent_early : 7 ≤ rule → rule ≤ 8 → true ≡ concludes_fluent rule
-  fluent_early least most = by-test (eqb rule 7) (λ t. fluent_by_7 (eqb-true rule 7 t)) (λ f. let no = eqb-false rule 7 f in fluent_by_8 (omega (arith, least, most, no)))
-
-  pub fluent_late : 10 ≤ rule → rule ≤ 12 → true ≡ concludes_fluent rule
-  fluent_late least most =
-      by-test (eqb rule 10) (λ t. fluent_by_10 (eqb-true rule 10 t)) λ f.
-      let no = eqb-false rule 10 f in
-      by-test (eqb rule 11) (λ t. fluent_by_11 (eqb-true rule 11 t)) λ g.
-      let none = eqb-false rule 11 g in
-      fluent_by_12 (omega (arith, least, most, no, none))
-
-  pub no_fluent : (7 ≤ rule → rule ≤ 8 → ⊥) → (10 ≤ rule → rule ≤ 12 → ⊥) → false ≡ concludes_fluent rule
-  unfolding concludes_fluent among some_of either
-  no_fluent early late =
-      rw (
-        ne_eqb rule 7 (λ e. early (omega (arith, e)) (omega (arith, e))),
-        ne_eqb rule 8 (λ e. early (omega (arith, e)) (omega (arith, e))),
-        ne_eqb rule 10 (λ e. late (omega (arith, e)) (omega (arith, e))),
-        ne_eqb rule 11 (λ e. late (omega (arith, e)) (omega (arith, e))),
-        ne_eqb rule 12 (λ e. late (omega (arith, e)) (omega (arith, e))),
-      ) refl
-
-module _ (n : ℕ) (s : List ℕ) (rule p : ℕ) (fluent : Bool) (which : fluent ≡ concludes_fluent rule) where
   module _ (number : Numbered) (is : fluent ≡ true) (read : numbered number ≡ (below_at n s p)) where
     by_fluent : conclusion_at format n s rule p ≡ fluent_concluded format n s p
     unfolding conclusion_at
-    by_fluent = pick_true _ _ _ (sym which ∙ is)
+    by_fluent = pick_true _ _ _ (sym which_is ∙ is)
 
     pub fluent_whole : (x q : ℕ) → number ≡ Ok (x, q) → over (Ok q) ≡ passed (conclusion_at format n s rule p)
     unfolding fluent_concluded next passed
@@ -128,7 +100,7 @@ module _ (n : ℕ) (s : List ℕ) (rule p : ℕ) (fluent : Bool) (which : fluent
 
   pub list_whole : (r : Passed) → fluent ≡ false → over r ≡ passed (list_at (kind_of Literals) n format.listed s p) → over r ≡ passed (conclusion_at format n s rule p)
   unfolding conclusion_at list_concluded kind_of
-  list_whole r is read = read ∙ sym (ap passed (pick_false _ _ _ (sym which ∙ is)) ∙ passed_same (list_at literals n format.listed s p) knows)
+  list_whole r is read = read ∙ sym (ap passed (pick_false _ _ _ (sym which_is ∙ is)) ∙ passed_same (list_at literals n format.listed s p) knows)
 
 -- With the rule byte, in the layout's order.
 module _ (layout : Layout) (n : ℕ) (s : List ℕ) (p : ℕ) where

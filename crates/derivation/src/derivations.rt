@@ -3,15 +3,16 @@ ghost use Rattle.meaning.specs.Limits.{format};
 ghost use Rattle.meaning.specs.Reading.{repeated, two_bytes_at};
 ghost use Rattle.meaning.specs.Derivations.{concludes_fluent, conclusion_at, concluded_at, line_at, closing_at, read_derivation};
 ghost use Rattle.parsing.specs.Read.{numbered, over, passed};
+ghost use Rattle.parsing.specs.Rules.{number_or_none};
 ghost use Rattle.reading.specs.Noted.{noting, outcome};
 ghost use Rattle.derivation.specs.DerivationRead.{places_noted, derivation_noted, citing, ending, planned, lined, places_slots};
 
-use super::rule_numbers;
 use meaning::{Form, Layout};
 use parsing::bytes::{below_at, byte_at, count_at, two_bytes_at};
 use parsing::faults::{Fault, Refusal};
 use parsing::limits;
 use parsing::lists::{Kind, list_at};
+use parsing::rules::Rule;
 use reader::{Reader, moved, new};
 use reading::notes::Notes;
 use reading::plan::plan_at;
@@ -53,16 +54,18 @@ fn cites_at(s: &[u8], p: usize) -> Result<usize, Fault>
 }
 
 // The rule concludes a fluent.
-pub fn gives_fluent(rule: usize) -> bool
-    ensures { result ≡ concludes_fluent rule }
+pub fn gives_fluent(rule: Option<Rule>) -> bool
+    ensures { result ≡ concludes_fluent (number_or_none rule) }
 {
     matches!(
         rule,
-        rule_numbers::LOOK_RULE
-            | rule_numbers::LITERAL_RULE
-            | rule_numbers::SENSING_WHETHER_RULE
-            | rule_numbers::COMPOSITION_WHETHER_RULE
-            | rule_numbers::BRANCHING_WHETHER_RULE
+        Some(
+            Rule::Look
+                | Rule::Literal
+                | Rule::SensingWhether
+                | Rule::CompositionWhether
+                | Rule::BranchingWhether
+        )
     )
 }
 
@@ -71,7 +74,7 @@ fn conclusion_at(n: usize, s: &[u8], rule: usize, p: usize) -> Result<usize, Fau
     requires { n ≤ format.fluents }
     ensures { over result ≡ passed (conclusion_at format n s.now rule p) }
 {
-    if gives_fluent(rule) {
+    if gives_fluent(Rule::of(rule)) {
         let (_, after) = below_at(n, s, p)?;
         return Ok(after);
     }

@@ -1,4 +1,5 @@
 pub mod Bits
 pub mod Faults
+pub mod Rules
 pub mod Read
 pub mod Masks

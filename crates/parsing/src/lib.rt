@@ -4,6 +4,7 @@
 
 pub mod limits; // every limit, refusal and mark
 pub mod faults; // why and where an input is refused
+pub mod rules; // the rules of derivations
 pub mod bits; // the bits of a number
 pub mod bytes; // bytes, numbers and counts
 pub mod lists; // lists of literals and of fluents

@@ -38,7 +38,7 @@ use Rattle.std.specs.Option.{option_eq}
 use Rattle.std.specs.Bool.{then_some}
 use Rattle.comparing.specs.declared.spots.Spot.{Spot}
 use Rattle.comparing.specs.Coded.{coded}
-use Rattle.comparing.specs.Stands.{PlanStands, NumbersStand, Stands, spot_at, LinesStand}
+use Rattle.comparing.specs.Stands.{PlanStands, NumbersStand, Stands, spot_at, number_cited, LinesStand}
 use Rattle.comparing.specs.RuleAnswers.{ItemsStand, SameConclusions, SomeLine, SomeLines, CitedBelow, RuledByAll}
 use Rattle.ruling.specs.Readings.{lines_at, reads_at, used, fluents_from, states_from, StandsSome, rest_first, rest_items, Follows, SomeFollows, SaysReading, RestStands, SomeRest, Uses}
 use Rattle.comparing.proofs.CodedLaws.{same_own, same_coded, none_done, coded_length}
@@ -121,7 +121,7 @@ abbrev slot_spot : Layout → (d places : List ℕ) → ℕ → Spot
 slot_spot layout d places i = spot_at layout d (get_or places i 0) (get_or places (plan_ends_slot + i) 0)
 
 -- CITATION k. Two bytes say its number.
-number_stands : (d cites : List ℕ) (p k : ℕ) → NumbersStand d p cites → k < length cites
+pub number_stands : (d cites : List ℕ) (p k : ℕ) → NumbersStand d p cites → k < length cites
     → (p + 2 * k + 1 < length d) × (get_or d (p + 2 * k) 0 * 256 + get_or d (p + 2 * k + 1) 0 ≡ get_or cites k 0)
 unfolding NumbersStand
 number_stands d [] p k stand less = absurd (omega (arith, less))
@@ -130,7 +130,7 @@ number_stands d (x ∷ cites) p (suc k) stand less =
     let on : p + 2 * suc k ≡ p + 2 + 2 * k = omega arith in
     rw on (number_stands d cites (p + 2) k stand.2 (omega (arith, less)))
 
-each_at : (test : ℕ → Bool) (cites : List ℕ) (k : ℕ) → each_of test cites ≡ true → k < length cites → test (get_or cites k 0) ≡ true
+pub each_at : (test : ℕ → Bool) (cites : List ℕ) (k : ℕ) → each_of test cites ≡ true → k < length cites → test (get_or cites k 0) ≡ true
 unfolding each_of
 each_at test [] k all less = absurd (omega (arith, less))
 each_at test (x ∷ cites) zero all less = both_left _ _ all
@@ -166,29 +166,17 @@ module _ (layout : Layout) (d places : List ℕ) (w : Spot) (count : ℕ) (count
     pub second_inside : w.cites + 1 + 2 * k + 1 < length d
     second_inside = (number_stands d some.cites (w.cites + 1) k some.stands.numbers near).0
 
-    pub first_inside : w.cites + 1 + 2 * k < length d
-    first_inside = let there = second_inside in omega (arith, there)
-
-    pub twice_fits : Fits w64 (2 * k)
-    twice_fits = let there = second_inside in let long = some.stands.stand.long in record { fits = omega (arith, there, long) }
-
-    pub numbers_fit : Fits w64 (w.cites + 1)
-    numbers_fit = let there = second_inside in let long = some.stands.stand.long in record { fits = omega (arith, there, long) }
-
-    pub first_fits : Fits w64 (w.cites + 1 + 2 * k)
-    first_fits = let there = second_inside in let long = some.stands.stand.long in record { fits = omega (arith, there, long) }
-
-    pub second_fits : Fits w64 (w.cites + 1 + 2 * k + 1)
-    second_fits = let there = second_inside in let long = some.stands.stand.long in record { fits = omega (arith, there, long) }
-
   -- Its line stands where the slots say.
-  module _ (less : k < count) (number : ℕ) (read : number ≡ get_or d (w.cites + 1 + 2 * k) 0 * 256 + get_or d (w.cites + 1 + 2 * k + 1) 0) where
+  module _ (less : k < count) where
+    abbrev number : ℕ
+    number = number_cited d w k
+
     module _ (lines : List Line) (rest : Sequence ℕ) (Y : Conclusion) (cites : List ℕ) (v : RestStands layout d places w lines rest Y cites) where
       close : k < length cites
       close = let counted = v.counted in omega (arith, less, counted, counts)
 
       is_number : number ≡ get_or cites k 0
-      is_number = read ∙ (number_stands d cites (w.cites + 1) k v.numbers close).1
+      is_number = (number_stands d cites (w.cites + 1) k v.numbers close).1
 
       is_below : number < length lines
       is_below = rw is_number (ltb-true (get_or cites k 0) (length lines) (each_at (λ (j : ℕ). ltb j (length lines)) cites k v.below close))
@@ -200,14 +188,14 @@ module _ (layout : Layout) (d places : List ℕ) (w : Spot) (count : ℕ) (count
         cited_near : ltb k (length (lines_at lines other cites)) ≡ true
         cited_near = let size = lines_length lines other cites in lt-ltb k (length (lines_at lines other cites)) (let there = close in omega (arith, there, size))
 
-    pub number_below : (total i : ℕ) → SomeRest layout d places total (slot_spot layout d places i) → w ≡ slot_spot layout d places i → number < total
+    pub number_below : (total i : ℕ) → SomeRest layout d places total (slot_spot layout d places i) → w ≡ slot_spot layout d places i → number_cited d w k < total
     number_below total i given placed =
         let some : SomeRest layout d places total w = subst (SomeRest layout d places total) (sym placed) given in
         let below = is_below some.lines some.rest some.Y some.cites some.stands in
         let size = some.size in
         omega (arith, below, size)
 
-    module _ (v : Spot) (placed : v ≡ slot_spot layout d places number) (marks : State) (said : Bool) (says_so : SaysReading d marks w v said) where
+    module _ (v : Spot) (placed : v ≡ slot_spot layout d places (number_cited d w k)) (marks : State) (said : Bool) (says_so : SaysReading d marks w v said) where
       said_is : (lines : List Line) (rest : Sequence ℕ) (Y : Conclusion) (cites : List ℕ) (other : Line) → RestStands layout d places w lines rest Y cites
           → said ≡ reads_at rest Y (lines_at lines other cites) other marks k
       unfolding reads_at
@@ -252,10 +240,8 @@ module _ (layout : Layout) (d places : List ℕ) (total i : ℕ) (given : SomeRe
     some_follows = rw placed (record { rest = given.rest; Y = given.Y; follows = given.stands.follows })
 
     -- And the line of citation k.
-    pub number_line : (count : ℕ) → count ≡ get_or d w.cites 0 → (k : ℕ) → k < count → (number : ℕ) → number ≡ get_or d (w.cites + 1 + 2 * k) 0 * 256 + get_or d (w.cites + 1 + 2 * k + 1) 0
-        → (v : Spot) → v ≡ slot_spot layout d places number → StandsSome d v
-    number_line count counts k less number read v there =
-        line_there number (number_below layout d places w count counts k less number read total i given placed) v there
+    pub number_line : (count : ℕ) → count ≡ get_or d w.cites 0 → (k : ℕ) → k < count → (v : Spot) → v ≡ slot_spot layout d places (number_cited d w k) → StandsSome d v
+    number_line count counts k less v there = line_there (number_cited d w k) (number_below layout d places w count counts k less total i given placed) v there
 
     pub said_of : (states : List State) (k : ℕ) (answer : Option ℕ) → Uses layout d places w states k answer → Uses layout d places (slot_spot layout d places i) states k answer
     said_of states k answer uses = subst (λ (z : Spot). Uses layout d places z states k answer) placed uses

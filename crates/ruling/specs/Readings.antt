@@ -50,7 +50,7 @@ rest_items d w = get_or d (sequence_place Flags d w.line) 0 * 256 + get_or d (se
 -- It stands there, and the line's conclusion.
 pub record Follows (d : List ℕ) (w : Spot) (rest : Sequence ℕ) (Y : Conclusion) : Type 0 where
   pub items : ItemsStand d (rest_first d w) w.end (rest_items d w) rest
-  pub concluded : ConclusionStands d w.fluent w.conclusion Y
+  pub concluded : ConclusionStands d w.conclusion Y
 
 pub record SomeFollows (d : List ℕ) (w : Spot) : Type 0 where
   pub rest : Sequence ℕ

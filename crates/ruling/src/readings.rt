@@ -12,11 +12,11 @@ ghost use Rattle.meaning.specs.declared.Form.TheVariants.{Flags};
 use comparing::known::lists_known;
 use comparing::parts::same_part;
 use comparing::plans::count_of;
-use comparing::spots::{Spot, same_conclusions, spot_of};
+use comparing::spots::{Spot, cited_of, same_conclusions, spot_of};
 use derivation::derivations::Places;
 use finding::branches::sequence_of;
 use meaning::{Form, Layout};
-use parsing::bytes::{two, wide};
+use parsing::bytes::wide;
 use parsing::limits;
 use parsing::shapes::OfFlags;
 use reading::marks::{Marks, state_of};
@@ -63,8 +63,7 @@ fn one_reading(
     if wide(d[own.cites]) <= k {
         return None;
     }
-    let at = own.cites + 1 + 2 * k;
-    let cited = spot_of(layout, d, places, lines, two(d[at], d[at + 1]));
+    let cited = cited_of(layout, d, places, lines, own, k);
     says_reading(d, marks, own, cited).then_some(k + 1)
 }
 

@@ -7,6 +7,7 @@ ghost use Rattle.meaning.specs.Lines.{sensing};
 ghost use Rattle.meaning.specs.Derivations.{goals_of};
 ghost use Rattle.meaning.specs.Walk.{Verified};
 ghost use Rattle.meaning.specs.Schemes.{line_of, derivation_of, derivation_bytes, narrow_walk_of};
+ghost use Rattle.parsing.specs.Rules.{rule_number};
 ghost use Rattle.reading.specs.Planned.{items_of};
 ghost use Rattle.steps.specs.Held.{table_in, plan_in, request_in};
 ghost use Rattle.steps.specs.AtHand.{Marked};
@@ -19,6 +20,7 @@ ghost use Rattle.meaning.specs.declared.Form.TheVariants.{Flags};
 
 use parsing::bytes::wide;
 use parsing::limits;
+use parsing::rules::Rule;
 use parsing::shapes::OfFlags;
 use reading::marks::{Marks, state_of};
 use reading::notes;
@@ -30,14 +32,13 @@ use steps::sensing::{first_unknown, is_sensing, next_unknown};
 use writing::cites::Cites;
 use writing::lines::{Progress, put_action, put_empty, put_goals};
 use writing::room::put_number;
-use writing::rule_bytes;
 
 // The line by a rule that cites the line before it.
 fn put_next(
     r: &Request<OfFlags>,
     at: usize,
     marks: &Marks,
-    rule: u8,
+    rule: Rule,
     room: &mut [u8],
     progress: &mut Progress,
 )
@@ -45,7 +46,7 @@ fn put_next(
     requires marked { Marked marks.now }
     requires underway { Underway progress.old }
     requires progress_nonzero { 0 < progress.old.lines }
-    ensures { Put (line_of marks.now (rest_at (plan_in Flags r.now.bytes.now r.now.notes.now) at) (goals_of (request_in Flags r.now.bytes.now r.now.notes.now)) rule ((progress.old.lines - 1) ∷ []) ∷ []) progress.old room.old progress.new room.new }
+    ensures { Put (line_of marks.now (rest_at (plan_in Flags r.now.bytes.now r.now.notes.now) at) (goals_of (request_in Flags r.now.bytes.now r.now.notes.now)) (rule_number rule) ((progress.old.lines - 1) ∷ []) ∷ []) progress.old room.old progress.new room.new }
 {
     let mut cites = Cites::none();
     let previous = progress.lines - 1;
@@ -60,14 +61,7 @@ fn put_end(r: &Request<OfFlags>, marks: &Marks, room: &mut [u8], progress: &mut 
     ensures { Put (lines_at r.now.bytes.now r.now.notes.now format.items marks.now progress.old.lines) progress.old room.old progress.new room.new }
 {
     put_empty(marks, room, progress);
-    put_next(
-        r,
-        limits::ITEMS,
-        marks,
-        rule_bytes::CONSEQUENCE_RULE,
-        room,
-        progress,
-    );
+    put_next(r, limits::ITEMS, marks, Rule::Consequence, room, progress);
 }
 
 // The line by rule 5: it cites the action's own line and the line before this one (FORMAT 24.7).
@@ -90,15 +84,7 @@ fn put_composed(
     let last = progress.lines - 1;
     cites.push(first);
     cites.push(last);
-    put_goals(
-        r,
-        at,
-        marks,
-        rule_bytes::COMPOSITION_RULE,
-        &cites,
-        room,
-        progress,
-    );
+    put_goals(r, at, marks, Rule::Composition, &cites, room, progress);
 }
 
 // The plan from a position on.
@@ -155,7 +141,7 @@ fn put_branching(
 {
     if let Some(at) = chosen(r, i, marks) {
         put_from(r, at, marks, room, progress);
-        put_next(r, i, marks, rule_bytes::BRANCHING_RULE, room, progress);
+        put_next(r, i, marks, Rule::Branching, room, progress);
     }
 }
 
@@ -206,15 +192,7 @@ fn put_sensing(
     let f = first_unknown(r, a, marks);
     let mut cites = Cites::none();
     put_readings(r, a, at, f, marks, &mut cites, room, progress);
-    put_goals(
-        r,
-        i,
-        marks,
-        rule_bytes::SENSING_RULE,
-        &cites,
-        room,
-        progress,
-    );
+    put_goals(r, i, marks, Rule::Sensing, &cites, room, progress);
 }
 
 // The readings of fluent f and of the unknown ones above it that the action senses, or of none where f is the limit of fluents; each is followed by the plan from a position

@@ -7,6 +7,7 @@ ghost use Rattle.meaning.specs.Requests.{done, item, act};
 ghost use Rattle.meaning.specs.Derivations.{knows, literals_of, goals_of};
 ghost use Rattle.meaning.specs.Layouts.{list_written, conclusion_written, numbers_written};
 ghost use Rattle.meaning.specs.Schemes.{line_of};
+ghost use Rattle.parsing.specs.Rules.{rule_number};
 ghost use Rattle.steps.specs.Held.{plan_in, request_in};
 ghost use Rattle.steps.specs.AtHand.{Marked};
 ghost use Rattle.steps.specs.Rests.{Position, rest_at};
@@ -16,10 +17,10 @@ ghost use Rattle.meaning.specs.declared.Form.TheVariants.{Flags};
 use super::cites::Cites;
 use super::rests::put_rest;
 use super::room::{put, put_known, put_number, put_part};
-use super::rule_bytes;
 use finding::branches::sequence_of;
 use meaning::Form;
 use parsing::limits;
+use parsing::rules::Rule;
 use parsing::shapes::OfFlags;
 use reading::marks::Marks;
 use reading::notes;
@@ -51,15 +52,15 @@ fn put_cites(cites: &Cites, room: &mut [u8], q: usize) -> usize
 }
 
 // What a state knows as the conclusion, and behind it a rule that cites nothing. It gives the place after them.
-fn put_uncited(marks: &Marks, rule: u8, room: &mut [u8], q: usize) -> usize
+fn put_uncited(marks: &Marks, rule: Rule, room: &mut [u8], q: usize) -> usize
     requires marked { Marked marks.now }
     requires q_bound { q < 140737488355328 }
-    ensures after { result ≡ q + length (list_written (literals_of marks.now) ++ (rule ∷ 0 ∷ [])) }
+    ensures after { result ≡ q + length (list_written (literals_of marks.now) ++ (rule_number rule ∷ 0 ∷ [])) }
     ensures within { result ≤ q + 3 + format.fluents }
-    ensures written { room.new ≡ sets room.old q (list_written (literals_of marks.now) ++ (rule ∷ 0 ∷ [])) }
+    ensures written { room.new ≡ sets room.old q (list_written (literals_of marks.now) ++ (rule_number rule ∷ 0 ∷ [])) }
 {
     let ruled = put_known(marks, room, q);
-    put(room, ruled, rule);
+    put(room, ruled, u8::from(rule));
     put(room, ruled + 1, 0);
     ruled + 2
 }
@@ -89,7 +90,7 @@ pub fn put_empty(marks: &Marks, room: &mut [u8], progress: &mut Progress)
     }
     let plan = put_known(marks, room, progress.end);
     put_number(room, plan, 0);
-    progress.end = put_uncited(marks, rule_bytes::EMPTY_RULE, room, plan + 2);
+    progress.end = put_uncited(marks, Rule::Empty, room, plan + 2);
     progress.lines += 1;
 }
 
@@ -107,7 +108,7 @@ pub fn put_action(a: u8, marks: &Marks, after: &Marks, room: &mut [u8], progress
     let plan = put_known(marks, room, progress.end);
     put_number(room, plan, 1);
     put(room, plan + 2, a);
-    progress.end = put_uncited(after, rule_bytes::ACTION_RULE, room, plan + 3);
+    progress.end = put_uncited(after, Rule::Action, room, plan + 3);
     progress.lines += 1;
 }
 
@@ -116,7 +117,7 @@ pub fn put_goals(
     r: &Request<OfFlags>,
     at: usize,
     marks: &Marks,
-    rule: u8,
+    rule: Rule,
     cites: &Cites,
     room: &mut [u8],
     progress: &mut Progress,
@@ -124,7 +125,7 @@ pub fn put_goals(
     requires position { Position (plan_in Flags r.now.bytes.now r.now.notes.now) at }
     requires marked { Marked marks.now }
     requires underway { Underway progress.old }
-    ensures stands { standing progress.new room.new ≡ add (standing progress.old room.old) (line_of marks.now (rest_at (plan_in Flags r.now.bytes.now r.now.notes.now) at) (goals_of (request_in Flags r.now.bytes.now r.now.notes.now)) rule cites.now ∷ []) }
+    ensures stands { standing progress.new room.new ≡ add (standing progress.old room.old) (line_of marks.now (rest_at (plan_in Flags r.now.bytes.now r.now.notes.now) at) (goals_of (request_in Flags r.now.bytes.now r.now.notes.now)) (rule_number rule) cites.now ∷ []) }
     ensures going { Underway progress.new }
 {
     if limits::LINES < progress.lines {
@@ -133,7 +134,7 @@ pub fn put_goals(
     let plan = put_known(marks, room, progress.end);
     let concluded = put_rest(r, at, room, plan);
     let ruled = put_asked(r, room, concluded);
-    put(room, ruled, rule);
+    put(room, ruled, u8::from(rule));
     progress.end = put_cites(cites, room, ruled + 1);
     progress.lines += 1;
 }

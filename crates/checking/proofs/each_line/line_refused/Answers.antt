@@ -1,6 +1,9 @@
 -- The rule, the count and the numbers that are cited stand where the line's spot says, and are judged in the definition's order.
-use Rattle.checking.proofs.EachLineLaws.{cited_there, cites_fit, cites_room, rule_mapped, not_known, not_taken, not_earlier, cites_earlier, not_following, following}
+use Rattle.checking.proofs.EachLineLaws.{cited_there, cites_fit, cites_room, rule_mapped, not_said, not_known, not_taken, not_earlier, cites_earlier, not_following, following}
 use Rattle.checking.proofs.each_line.line_refused.Goals as goal
+
+pub returns-in_default : goal.returns-in_default
+returns-in_default c = search not_said
 
 pub returns-then-not-is_rule : goal.returns-then-not-is_rule
 returns-then-not-is_rule c = search not_known

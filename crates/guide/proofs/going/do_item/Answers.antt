@@ -6,14 +6,14 @@ use Rattle.guide.proofs.going.do_item.Goals as goal
 pub bounds-r-get : goal.bounds-r-get
 bounds-r-get c = search item_inside
 
-pub can_be_run-requires-clause-a_lt_actions : goal.can_be_run-requires-clause-a_lt_actions
-can_be_run-requires-clause-a_lt_actions c = search action_low
+pub can_be_run-requires : goal.can_be_run-requires
+can_be_run-requires c = search action_low
 
 pub returns-then-not-can_be_run : goal.returns-then-not-can_be_run
 returns-then-not-can_be_run c = search item_refused
 
-pub is_sensing-requires-clause-a_lt_actions : goal.is_sensing-requires-clause-a_lt_actions
-is_sensing-requires-clause-a_lt_actions c = search action_low
+pub is_sensing-requires : goal.is_sensing-requires
+is_sensing-requires c = search action_low
 
 pub returns-then-is_sensing : goal.returns-then-is_sensing
 returns-then-is_sensing c = search item_sensing

@@ -1,5 +1,5 @@
 -- The number of citation k stands in two bytes and is that of a line, which stands where its slots say; past the last citation there is none.
-use Rattle.ruling.proofs.ReadingRuleLaws.{none_left, first_inside, second_inside, number_below, number_line, line_there, cites_there, some_follows, some_lines, said_of, reading_told}
+use Rattle.ruling.proofs.ReadingRuleLaws.{none_left, second_inside, number_below, number_line, line_there, cites_there, some_follows, some_lines, said_of, reading_told}
 use Rattle.ruling.proofs.readings.one_reading.Goals as goal
 
 pub bounds-d-own : goal.bounds-d-own
@@ -8,17 +8,14 @@ bounds-d-own c = search cites_there
 pub returns-then-wide-k : goal.returns-then-wide-k
 returns-then-wide-k c = search (none_left, said_of)
 
-pub bounds-d-at : goal.bounds-d-at
-bounds-d-at c = search first_inside
+pub cited_of-cited-requires-clause-some_lines : goal.cited_of-cited-requires-clause-some_lines
+cited_of-cited-requires-clause-some_lines c = search some_lines
 
-pub bounds-d-at-2 : goal.bounds-d-at-2
-bounds-d-at-2 c = search second_inside
+pub cited_of-cited-requires-clause-number_there : goal.cited_of-cited-requires-clause-number_there
+cited_of-cited-requires-clause-number_there c = search second_inside
 
-pub spot_of-cited-requires-clause-some_lines : goal.spot_of-cited-requires-clause-some_lines
-spot_of-cited-requires-clause-some_lines c = search some_lines
-
-pub spot_of-cited-requires-clause-k_lt_lines : goal.spot_of-cited-requires-clause-k_lt_lines
-spot_of-cited-requires-clause-k_lt_lines c = search number_below
+pub cited_of-cited-requires-clause-number_below : goal.cited_of-cited-requires-clause-number_below
+cited_of-cited-requires-clause-number_below c = search number_below
 
 pub says_reading-requires-clause-stands_some : goal.says_reading-requires-clause-stands_some
 says_reading-requires-clause-stands_some c = search number_line

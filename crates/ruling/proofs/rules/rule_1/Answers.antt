@@ -2,8 +2,8 @@
 use Rattle.ruling.proofs.RuleLaws.{YHere, plan_counted, empty_whether, empty_same, not_empty}
 use Rattle.ruling.proofs.rules.rule_1.Goals as goal
 
-pub returns-then-l : goal.returns-then-l
-returns-then-l c = search empty_whether
+pub returns-in_default : goal.returns-in_default
+returns-in_default c = search empty_whether
 
 pub empty-requires : goal.empty-requires
 empty-requires c = search plan_counted

@@ -6,8 +6,8 @@ use Rattle.ruling.proofs.RuleLaws.{YHere, plan_counted, items_fit, next_marked, 
 use Rattle.ruling.proofs.rules.rule_2.Goals as goal
 use Rattle.ruling.proofs.rules.rule_2.Goals.{then-count_of-ne1-via-then-count_of-ne1, then-count_of-ne1-via-else-count_of-ne1+then-d-plan}
 
-pub returns-then-l : goal.returns-then-l
-returns-then-l c = search action_whether
+pub returns-in_default : goal.returns-in_default
+returns-in_default c = search action_whether
 
 pub count_of-requires : goal.count_of-requires
 count_of-requires c = search plan_counted

@@ -1,12 +1,10 @@
--- A plan of one item whose byte is no 255 is that action, which is within the limit; the byte of the conclusion is the fluent, and the marks are the
--- state of X. A list is no fluent.
-use Rattle.std.proofs.lemmas.Bool.{not-true, not-false}
-use Rattle.ruling.proofs.RuleLaws.{fluent_there, fluent_small, plan_counted, items_fit, item_there, action_small, look_lists, not_one_looked, look_branches, looks_elsewhere, looks_there}
+-- A plan of one item whose byte is no 255 is that action, which is within the limit; the marks are the state of X. A list is no fluent.
+use Rattle.ruling.proofs.RuleLaws.{fluent_small, plan_counted, items_fit, item_there, action_small, look_lists, not_one_looked, look_branches, looks_elsewhere, looks_there}
 use Rattle.ruling.proofs.rules.rule_7.Goals as goal
 use Rattle.ruling.proofs.rules.rule_7.Goals.{then-count_of-ne1-via-then-count_of-ne1, then-count_of-ne1-via-else-count_of-ne1+then-d-plan}
 
-pub returns-then-not-l : goal.returns-then-not-l
-returns-then-not-l c = search (look_lists, not-true)
+pub returns-in_default : goal.returns-in_default
+returns-in_default c = search look_lists
 
 pub count_of-requires : goal.count_of-requires
 count_of-requires c = search plan_counted
@@ -26,20 +24,17 @@ overflow_add-plan-2 c = search items_fit
 pub bounds-d-plan-2 : goal.bounds-d-plan-2
 bounds-d-plan-2 c = search item_there
 
-pub bounds-d-l : goal.bounds-d-l
-bounds-d-l c = search (fluent_there, not-false)
-
 pub looks_at-requires-clause-a_lt_actions : goal.looks_at-requires-clause-a_lt_actions
 looks_at-requires-clause-a_lt_actions c = search action_small
 
 pub looks_at-requires-clause-f_lt_fluents : goal.looks_at-requires-clause-f_lt_fluents
-looks_at-requires-clause-f_lt_fluents c = search (fluent_small, not-false)
+looks_at-requires-clause-f_lt_fluents c = search fluent_small
 
 pub can_be_run-requires : goal.can_be_run-requires
 can_be_run-requires c = search action_small
 
 pub returns-then-looks_at : goal.returns-then-looks_at
-returns-then-looks_at c = search (looks_there, not-false)
+returns-then-looks_at c = search looks_there
 
 pub returns-else-looks_at : goal.returns-else-looks_at
-returns-else-looks_at c = rw c.if-looks_at.false (search (looks_elsewhere, not-false))
+returns-else-looks_at c = rw c.if-looks_at.false (search looks_elsewhere)

@@ -1,24 +1,23 @@
--- The cited list has one literal exactly where its count is 1, and this is of the fluent exactly where half of it is the conclusion's byte. The lists X
--- and the plans are compared as they stand.
-use Rattle.std.proofs.lemmas.Bool.{not-true, not-false}
-use Rattle.ruling.proofs.RuleLaws.{fluent_there, some_plan, settled_by_whether, list_settled, literals_there, first_there, literal_fits, not_one_literal, other_fluent, settled_elsewhere, settled}
+-- The cited list has one literal exactly where its count is 1, and this is of the fluent exactly where half of it is the fluent. The lists X and the
+-- plans are compared as they stand.
+use Rattle.ruling.proofs.RuleLaws.{some_plan, settled_by_whether, list_settled, literals_there, first_there, literal_fits, not_one_literal, other_fluent, settled_elsewhere, settled}
 use Rattle.ruling.proofs.rules.rule_8.Goals as goal
-use Rattle.ruling.proofs.rules.rule_8.Goals.{then-cited-via-then-cited, then-cited-via-else-cited+then-not-l, then-cited-via-else-cited+else-not-l+then-d-cited-ne1, then-cited-via-else-cited+else-not-l+else-d-cited-ne1+then-d-cited, then-cited-via-else-cited+else-not-l+else-d-cited-ne1+else-d-cited+then-not-same_lists}
+use Rattle.ruling.proofs.rules.rule_8.Goals.{then-d-told-ne1-via-then-d-told-ne1, then-d-told-ne1-via-else-d-told-ne1+then-d-told, then-d-told-ne1-via-else-d-told-ne1+else-d-told+then-not-same_lists}
 
-pub bounds-d-cited : goal.bounds-d-cited
-bounds-d-cited c = search literals_there
+pub returns-in_default : goal.returns-in_default
+returns-in_default c = search settled_by_whether
 
-pub overflow_add-cited : goal.overflow_add-cited
-overflow_add-cited c = search literal_fits
+pub returns-in_default-conclusion : goal.returns-in_default-conclusion
+returns-in_default-conclusion c = search list_settled
 
-pub bounds-d-cited-else-d-cited-ne1 : goal.bounds-d-cited-else-d-cited-ne1
-bounds-d-cited-else-d-cited-ne1 c = search first_there
+pub bounds-d-told : goal.bounds-d-told
+bounds-d-told c = search literals_there
 
-pub bounds-d-l : goal.bounds-d-l
-bounds-d-l c = search (fluent_there, not-false)
+pub bounds-d-told-else-d-told-ne1 : goal.bounds-d-told-else-d-told-ne1
+bounds-d-told-else-d-told-ne1 c = search first_there
 
-pub returns-then-cited : goal.returns-then-cited
-returns-then-cited c = elim c.then-cited.branch [ then-cited-via-then-cited w ↦ search settled_by_whether | then-cited-via-else-cited+then-not-l w ↦ search (list_settled, not-true) | then-cited-via-else-cited+else-not-l+then-d-cited-ne1 w ↦ search (not_one_literal, not-false) | then-cited-via-else-cited+else-not-l+else-d-cited-ne1+then-d-cited w ↦ search (other_fluent, not-false) | then-cited-via-else-cited+else-not-l+else-d-cited-ne1+else-d-cited+then-not-same_lists w ↦ search settled_elsewhere ]
+pub returns-then-d-told-ne1 : goal.returns-then-d-told-ne1
+returns-then-d-told-ne1 c = elim c.then-d-told-ne1.branch [ then-d-told-ne1-via-then-d-told-ne1 w ↦ search not_one_literal | then-d-told-ne1-via-else-d-told-ne1+then-d-told w ↦ search other_fluent | then-d-told-ne1-via-else-d-told-ne1+else-d-told+then-not-same_lists w ↦ search settled_elsewhere ]
 
 pub same_plans-requires-clause-some_plan : goal.same_plans-requires-clause-some_plan
 same_plans-requires-clause-some_plan c = search some_plan
@@ -27,4 +26,4 @@ pub same_plans-requires-clause-some_plan_2 : goal.same_plans-requires-clause-som
 same_plans-requires-clause-some_plan_2 c = search some_plan
 
 pub returns : goal.returns
-returns c = search (settled, not-false)
+returns c = search settled
