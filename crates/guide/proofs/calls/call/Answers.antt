@@ -8,17 +8,17 @@ use Rattle.guide.proofs.calls.call.Goals as goal
 pub settle-requires : goal.settle-requires
 settle-requires c = search (rules, blank_is)
 
-pub is_going-requires : goal.is_going-requires
-is_going-requires c = settled_at_hand _ _ _ _ c.settle.ensures _ c.in-Ok.is c.type_inv.request blank_is
+pub of-r-requires : goal.of-r-requires
+of-r-requires c = settled_at_hand _ _ _ _ c.settle.ensures _ c.in-Ok.is c.type_inv.request blank_is
 
 pub answer_call-requires : goal.answer_call-requires
-answer_call-requires c = let here = settled_at_hand _ _ _ _ c.settle.ensures _ c.in-Ok.is c.type_inv.request blank_is in record { at_hand = here; position = going_position _ _ _ _ _ c.is_going.ensures.value c.if-is_going.true here; marked = search (rules, going_marked) }
+answer_call-requires c = let going = rw (c.of-r.ensures.bytes, c.of-r.ensures.notes) at c.is_going.ensures.value in record { position = rw (c.of-r.ensures.bytes, c.of-r.ensures.notes) (going_position _ _ _ _ _ going c.if-is_going.true (settled_at_hand _ _ _ _ c.settle.ensures _ c.in-Ok.is c.type_inv.request blank_is)); marked = search (rules, going_marked) }
 
 pub returns-then-is_going : goal.returns-then-is_going
-returns-then-is_going c = search (rules, called_going, blank_is)
+returns-then-is_going c = let going = rw (c.of-r.ensures.bytes, c.of-r.ensures.notes) at c.is_going.ensures.value in let answered = rw (c.of-r.ensures.bytes, c.of-r.ensures.notes) at c.answer_call.ensures in search (rules, called_going, blank_is)
 
 pub returns-else-is_going : goal.returns-else-is_going
-returns-else-is_going c = search (rules, called_refused, blank_is)
+returns-else-is_going c = let going = rw (c.of-r.ensures.bytes, c.of-r.ensures.notes) at c.is_going.ensures.value in search (rules, called_refused, blank_is)
 
 pub returns-in-Err : goal.returns-in-Err
 returns-in-Err c = search (rules, called_fault)

@@ -9,11 +9,11 @@ loop-i-init c = search looking_starts
 pub bounds-r-get : goal.bounds-r-get
 bounds-r-get c = search (item_inside, looking_there)
 
-pub returns-then-s-get-clause-result_value : goal.returns-then-s-get-clause-result_value
-returns-then-s-get-clause-result_value c = search looking_action
+pub returns-then-r-get-clause-result_value : goal.returns-then-r-get-clause-result_value
+returns-then-r-get-clause-result_value c = search looking_action
 
-pub returns-then-s-get-clause-action_there : goal.returns-then-s-get-clause-action_there
-returns-then-s-get-clause-action_there c = search looking_item
+pub returns-then-r-get-clause-action_there : goal.returns-then-r-get-clause-action_there
+returns-then-r-get-clause-action_there c = search looking_item
 
 pub chosen-requires-clause-i_bound : goal.chosen-requires-clause-i_bound
 chosen-requires-clause-i_bound c = search looking_there
