@@ -1,14 +1,14 @@
 // The actions of the plan, one after the other, and the readings of those that sense (FORMAT 25.17 to 25.19).
 ghost use Rattle.std.specs.Prelude.{◌≤◌, length, IfOk, IfSome};
 
-use super::saying::{listed, prompt, say, say_refused};
+use super::saying::{listed, prompt, say_refused};
 use super::typed::{Line, ROW, read_line};
 use guidance::Told;
 use guide::guides::{Guide, Turn};
 use guide::sensed::Fluents;
-use programs::fail;
+use programs::Program;
 use std::io;
-use std::io::{Read, Write};
+use std::io::Read;
 
 // How a run ends: the plan is done; or the start was refused, or there is no line of readings any more.
 #[derive(Clone, Copy)]
@@ -31,9 +31,9 @@ fn put_action(rt: &impl Print, action: usize, asked: &Fluents) -> io::Result<()>
 }
 
 // Reads lines until one has readings, and gives their number; or there is none any more. It asks for a line where somebody is to be asked, and says why one is not taken.
-fn ask<I: Read, E: Write>(
+fn ask<R, I: Read>(
+    program: &Program<'_, R>,
     input: &mut I,
-    err: &mut E,
     asked: &Fluents,
     prompts: bool,
     row: &mut [u8],
@@ -42,16 +42,13 @@ fn ask<I: Read, E: Write>(
 {
     for _ in 0..u64::MAX {
         if prompts {
-            prompt(err, asked).map_err(|_| Failure::Unsaid)?;
+            prompt(program, asked).map_err(|_| Failure::Unsaid)?;
         }
         let said = match read_line(input, row).map_err(Failure::Input)? {
             Line::Readings(n) => return Ok(Some(n)),
             Line::End => return Ok(None),
-            Line::Other => say(
-                err,
-                "a line of readings has 0 and 1 and spaces between them",
-            ),
-            Line::TooLong => say(err, "a line of readings has no more than 1024 bytes"),
+            Line::Other => program.say("a line of readings has 0 and 1 and spaces between them"),
+            Line::TooLong => program.say("a line of readings has no more than 1024 bytes"),
         };
         said.map_err(|_| Failure::Unsaid)?;
     }
@@ -59,12 +56,12 @@ fn ask<I: Read, E: Write>(
 }
 
 // Calls the guide until the plan is done.
-fn run<R: Print + io::Input, E: Write>(
-    rt: &R,
-    err: &mut E,
+fn run<R: Print + io::Input>(
+    program: &Program<'_, R>,
     guide: Guide,
     prompts: bool,
 ) -> Result<Ending, Failure> {
+    let rt = program.rt;
     let mut input = rt.reader();
     let mut row = [0u8; ROW];
     let mut count = 0;
@@ -85,9 +82,9 @@ fn run<R: Print + io::Input, E: Write>(
                 rt.println("done").map_err(Failure::Output)?;
                 return Ok(Ending::Done);
             }
-            Told::Refused(answer) => say_refused(err, answer).map_err(|_| Failure::Unsaid)?,
+            Told::Refused(answer) => say_refused(program, answer).map_err(|_| Failure::Unsaid)?,
         }
-        let Some(n) = ask(&mut input, err, &asked, prompts, &mut row)? else {
+        let Some(n) = ask(program, &mut input, &asked, prompts, &mut row)? else {
             break;
         };
         count = n;
@@ -96,16 +93,15 @@ fn run<R: Print + io::Input, E: Write>(
 }
 
 // How the run ends; or nothing where something failed, which is said.
-pub fn lead<R: Print + io::Input, E: Write>(
-    rt: &R,
-    err: &mut E,
+pub fn lead<R: Print + io::Input>(
+    program: &Program<'_, R>,
     guide: Guide,
     prompts: bool,
 ) -> Option<Ending> {
-    match run(rt, err, guide, prompts) {
+    match run(program, guide, prompts) {
         Ok(ending) => return Some(ending),
-        Err(Failure::Input(error)) => fail(err, "guide: standard input", error),
-        Err(Failure::Output(error)) => fail(err, "guide: standard output", error),
+        Err(Failure::Input(error)) => program.fail("standard input", error),
+        Err(Failure::Output(error)) => program.fail("standard output", error),
         Err(Failure::Unsaid) => {}
     }
     None

@@ -6,73 +6,46 @@ mod leading; // the actions, until the plan's end
 mod saying; // what is said on standard error
 mod typed; // a line of readings
 
+ghost use Rattle.std.specs.Prelude.{◌≤◌};
+
 use guide::guides::Guide;
 use leading::{Ending, lead};
-use programs::{
-    REQUEST_ROOM, is_word, number_at, read_argument, say_budget, stack_is_enough, word_count,
-};
-use saying::{say, say_refused};
+use programs::{Program, REQUEST_ROOM};
+use saying::say_refused;
 use std::env::Env;
 use std::io;
-use std::io::Write;
 use std::rt::Files;
 use verdicts::answers;
 
-// How the run ends. Without enough stack there is no start, which is said.
-fn guide_request<R: Print + io::Input + Files, E: Write>(
-    rt: &R,
-    err: &mut E,
-    request: &[u8],
-    budget: u32,
+// How the run ends. The budget is argument i, and the request's file is named by the one behind it, which is the last. Without enough stack there is no
+// start, which is said.
+fn guide_arguments<R: Print + io::Input + Env + Files>(
+    program: &Program<'_, R>,
+    i: usize,
     prompts: bool,
-) -> Option<Ending> {
-    if !stack_is_enough(rt, err, "guide", b"", request.len()) {
+) -> Option<Ending>
+    requires { i ≤ 2 }
+{
+    if program.word_count().saturating_sub(i) != 2 {
+        let _ = program.say("a budget and a file are needed");
         return None;
     }
-    let started = Guide::start(request, budget);
-    if started.answer.number == answers::VERIFIED {
-        return lead(rt, err, started.guide, prompts);
-    }
-    say_refused(err, started.answer).ok()?;
-    Some(Ending::Early)
-}
-
-// The request's file is the one that argument i names.
-fn guide_argument<R: Print + io::Input + Env + Files, E: Write>(
-    rt: &R,
-    err: &mut E,
-    i: usize,
-    budget: u32,
-    prompts: bool,
-) -> Option<Ending> {
-    // One byte more than a request may have: a longer one is refused whatever it holds.
-    let mut bytes = [0u8; REQUEST_ROOM];
-    let n = read_argument(rt, err, "guide", "guide: ", i, &mut bytes).ok()?;
-    guide_request(rt, err, &bytes[..n], budget, prompts)
-}
-
-// Argument i is there, and is the last one.
-fn is_last(rt: &impl Env, i: usize) -> bool {
-    word_count(rt).saturating_sub(i) == 1
-}
-
-// The budget is argument i and the file argument j.
-fn guide_arguments<R: Print + io::Input + Env + Files, E: Write>(
-    rt: &R,
-    err: &mut E,
-    i: usize,
-    j: usize,
-    prompts: bool,
-) -> Option<Ending> {
-    if !is_last(rt, j) {
-        let _ = say(err, "a budget and a file are needed");
-        return None;
-    }
-    let Some(budget) = number_at(rt, i) else {
-        say_budget(err, "guide");
+    let Some(budget) = program.number_at(i) else {
+        program.say_budget();
         return None;
     };
-    guide_argument(rt, err, j, budget, prompts)
+    // One byte more than a request may have: a longer one is refused whatever it holds.
+    let mut bytes = [0u8; REQUEST_ROOM];
+    let n = program.read_argument("guide: ", i + 1, &mut bytes).ok()?;
+    if !program.stack_is_enough(None, n) {
+        return None;
+    }
+    let started = Guide::start(&bytes[..n], budget);
+    if started.answer.number == answers::VERIFIED {
+        return lead(program, started.guide, prompts);
+    }
+    say_refused(program, started.answer).ok()?;
+    Some(Ending::Early)
 }
 
 // How it ended, for the script, which makes the exit status of the first number.
@@ -86,12 +59,12 @@ fn tell<R: Files>(rt: &R, ending: Option<Ending>) {
 
 // The script's words come first: that it is to be told how the program ends, and that there is somebody to be prompted.
 fn main(rt: HostRuntime) {
-    let mut err = rt.stderr();
-    let prompts = is_word(&rt, 1, b"--prompt");
-    if prompts || is_word(&rt, 1, b"--answer") {
-        let ending = guide_arguments(&rt, &mut err, 2, 3, prompts);
+    let program = Program::new(&rt, "guide");
+    let prompts = program.is_word(1, b"--prompt");
+    if prompts || program.is_word(1, b"--answer") {
+        let ending = guide_arguments(&program, 2, prompts);
         tell(&rt, ending);
     } else {
-        guide_arguments(&rt, &mut err, 1, 2, false);
+        guide_arguments(&program, 1, false);
     }
 }

@@ -2,17 +2,11 @@
 use guide::going;
 use guide::sensed::Fluents;
 use meaning::Answer;
-use programs::Counted;
 use programs::words::InWords;
+use programs::{Counted, Program};
 use std::fmt::Display;
-use std::io::Write;
 use std::{fmt, io};
 use verdicts::answers;
-
-// A line with the program's name before it.
-pub fn say<E: Write, D: Display + Drop>(err: &mut E, text: D) -> io::Result<()> {
-    writeln!(err, "guide: {text}")
-}
 
 // A refusal in the words of a number that is a guide's own, or in those that every program has; with its number, and where it names a place with that too.
 #[derive(Clone, Copy)]
@@ -26,13 +20,14 @@ impl Display for Refusal {
             place,
             ..
         } = self.0;
-        match number {
-            going::NOT_VERIFIED => f.write_str("not verified"),
-            going::WRONG_NUMBER => f.write_str("wrong number of readings"),
-            going::AGAINST_KNOWN => f.write_str("reading against a known fluent"),
-            _ => InWords(number).fmt(f),
-        }?;
-        write!(f, " ({number})")?;
+        // Kept: three numbers are a guide's own, and this is the list of their words, a number to a line.
+        let said = match number {
+            going::NOT_VERIFIED => "not verified",
+            going::WRONG_NUMBER => "wrong number of readings",
+            going::AGAINST_KNOWN => "reading against a known fluent",
+            _ => InWords(number).as_str(),
+        };
+        write!(f, "{said} ({number})")?;
         if input == answers::THE_REQUEST {
             write!(f, ", place {place}")?;
         }
@@ -40,8 +35,8 @@ impl Display for Refusal {
     }
 }
 
-pub fn say_refused<E: Write>(err: &mut E, answer: Answer) -> io::Result<()> {
-    say(err, Refusal(answer))
+pub fn say_refused<R>(program: &Program<'_, R>, answer: Answer) -> io::Result<()> {
+    program.say(Refusal(answer))
 }
 
 // The fluents that are asked for, each behind a space.
@@ -53,7 +48,7 @@ pub fn listed(asked: &Fluents) -> Counted<'_> {
 }
 
 // What an operator at a terminal is asked before a line is read.
-pub fn prompt<E: Write>(err: &mut E, asked: &Fluents) -> io::Result<()> {
+pub fn prompt<R>(program: &Program<'_, R>, asked: &Fluents) -> io::Result<()> {
     let fluents = listed(asked);
-    write!(err, "0 or 1 for each of the fluents{fluents}: ")
+    print!(program.err; "0 or 1 for each of the fluents{fluents}: ")
 }

@@ -9,9 +9,9 @@ ghost use Rattle.std.specs.Io.{ReadsAtMost};
 use guidance::Told;
 use guide::guides::{Guide, Turn};
 use meaning::Answer;
-use programs::{Counted, fail, stack_is_enough};
+use programs::{Counted, Program, Reason};
 use std::fmt::Display;
-use std::io::{ErrorKind, Read, Write};
+use std::io::{ErrorKind, Read};
 use std::rt::Files;
 use std::{fmt, io};
 
@@ -33,12 +33,9 @@ fn read_whole<I: Read>(input: &mut I, buf: &mut [u8]) -> io::Result<()> {
 fn number_read<const BYTES: usize, I: Read>(input: &mut I) -> io::Result<u32>
     requires { BYTES ≤ 4 }
 {
-    let mut bytes = [0u8; BYTES];
-    read_whole(input, &mut bytes)?;
-    let number = bytes
-        .iter()
-        .fold(0, |number, byte| (number << 8) | u32::from(*byte));
-    Ok(number)
+    let mut bytes = [0u8; 4];
+    read_whole(input, &mut bytes[4 - BYTES..])?;
+    Ok(u32::from_be_bytes(bytes))
 }
 
 // A row behind its length, which so many bytes write, is read to the start of buf.
@@ -107,50 +104,40 @@ fn put_calls<R: Print, I: Read>(
     Ok(())
 }
 
-// The start and the calls behind it.
-fn put_started<R: Print, I: Read>(
-    rt: &R,
+// A trial with this budget: the start and the calls behind it.
+fn put_trial<R: Print + Files, I: Read>(
+    program: &Program<'_, R>,
     input: &mut I,
-    request: &[u8],
     budget: u32,
 ) -> io::Result<()> {
-    let started = Guide::start(request, budget);
+    let rt = program.rt;
+    let mut bytes = [0u8; REQUEST_ROOM];
+    let n = row_read::<2, I>(input, &mut bytes)?;
+    if !program.stack_is_enough(None, n) {
+        return Err(io::Error::from(ErrorKind::OutOfMemory));
+    }
+    let started = Guide::start(&bytes[..n], budget);
     let answer = Whole(started.answer);
     println!(rt; "start {answer}")?;
     let calls = number_read::<2, I>(input)?;
     put_calls(rt, input, started.guide, calls)
 }
 
-// A trial with this budget.
-fn put_trial<R: Print + Files, I: Read, E: Write>(
-    rt: &R,
-    input: &mut I,
-    err: &mut E,
-    budget: u32,
-) -> io::Result<()> {
-    let mut bytes = [0u8; REQUEST_ROOM];
-    let n = row_read::<2, I>(input, &mut bytes)?;
-    if !stack_is_enough(rt, err, "guide_trials", b"", n) {
-        return Err(io::Error::from(ErrorKind::OutOfMemory));
-    }
-    put_started(rt, input, &bytes[..n], budget)
-}
-
 // It ends where the input ends, and at the first trial that can't be read or answered.
-fn put_trials<R: Print + io::Input + Files, E: Write>(rt: &R, err: &mut E) -> io::Result<()> {
-    let mut input = rt.reader();
+fn put_trials<R: Print + io::Input + Files>(program: &Program<'_, R>) -> io::Result<()> {
+    let mut input = program.rt.reader();
     for _ in 0..u64::MAX {
         let Ok(budget) = number_read::<4, R::Reader>(&mut input) else {
             break;
         };
-        put_trial(rt, &mut input, err, budget)?;
+        put_trial(program, &mut input, budget)?;
     }
     Ok(())
 }
 
 fn main(rt: HostRuntime) {
-    let mut err = rt.stderr();
-    if let Err(error) = put_trials(&rt, &mut err) {
-        fail(&mut err, "guide_trials", error);
+    let program = Program::new(&rt, "guide_trials");
+    if let Err(error) = put_trials(&program) {
+        let _ = program.say(Reason(error));
     }
 }

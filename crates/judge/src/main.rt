@@ -8,13 +8,9 @@ use glintstring::judging::{
     Judged, judge, judge_by_cases, judge_guarded, judge_indexed, judge_values,
 };
 use parsing::limits;
-use programs::{
-    Numbers, answer_input, budget_asked, fail, open_index, option_asked, put_state, put_values,
-    read_all, say_budget, stack_is_enough,
-};
+use programs::{Numbers, Program, Signs, Values, marks_left, open_index, read_all};
 use std::env::Env;
 use std::io;
-use std::io::{ErrorKind, Write};
 use std::rt::Files;
 use verdicts::answers;
 
@@ -28,106 +24,96 @@ enum Call {
     Values,
 }
 
-// What the program's words ask for: a call, its budget, and the line that its answer is about.
-#[derive(Clone, Copy)]
-struct Asked {
-    call: Call,
-    budget: u32,
-    line: bool,
-}
-
 // Room for an index, with a byte more: what stands behind that changes no answer.
 const INDEX_ROOM: usize = limits::INDEX + 1;
 
-// The line with the state that an answer has left.
-fn put_left(
-    rt: &impl Print,
-    call: Call,
-    state: &[u8; limits::FLUENTS],
-    fluents: u8,
-) -> io::Result<()> {
-    match call {
-        Call::Values => put_values(rt, state, fluents),
-        _ => put_state(rt, state, fluents),
+impl Call {
+    // Reads the index, which the script has open on another descriptor, where the call takes one. Every other call is given none.
+    fn read_index<R: Files>(self, rt: &R, buf: &mut [u8]) -> io::Result<usize>
+        ensures { ReadsAtMost result buf.new }
+    {
+        match self {
+            Call::Indexed => {
+                let mut file = open_index(rt)?;
+                read_all(&mut file, buf)
+            }
+            _ => Ok(0),
+        }
+    }
+
+    // What the call answers, and the line that its answer is about, which the values call has none of.
+    // Kept: each call is a function of its own, and two of the five take or give something else than the others. A trait would be five types with an
+    // implementation each, and one more type to choose among them, for the one place that makes a call.
+    fn answer(
+        self,
+        request: &[u8],
+        index: &[u8],
+        state: &mut [u8; limits::FLUENTS],
+        budget: u32,
+    ) -> Judged {
+        match self {
+            Call::Walk => judge(request, state, budget),
+            Call::Guarded => judge_guarded(request, state, budget),
+            Call::ByCases => judge_by_cases(request, state, budget),
+            Call::Indexed => judge_indexed(request, index, state, budget),
+            Call::Values => Judged {
+                answer: judge_values(request, state, budget),
+                line: 0,
+            },
+        }
+    }
+
+    // The line with the state that an answer has left.
+    fn put_left(self, rt: &impl Print, marks: &[u8]) -> io::Result<()> {
+        match self {
+            Call::Values => rt.println(Values(marks)),
+            _ => rt.println(Signs(marks)),
+        }
     }
 }
 
-// The answer, for 1, 2 and 43 the state, and where it is asked for the line. The first byte of a request that gets one of these is its fluent count. Without
-// enough stack there is none, which is said.
-fn answer_to<R: Print + Files, E: Write>(
-    rt: &R,
-    err: &mut E,
+// The answer, for 1, 2 and 43 the state, and where it is asked for the line. Without the index that the call takes, or enough stack, there is no
+// answer, which is said. The index is read once the request is.
+fn answer_to<R: Print + Files>(
+    program: &Program<'_, R>,
+    call: Call,
+    budget: u32,
+    line_asked: bool,
     request: &[u8],
-    index: &[u8],
-    asked: Asked,
 ) -> io::Result<()> {
-    if !stack_is_enough(rt, err, "judge", b"", request.len()) {
+    let rt = program.rt;
+    let mut bytes = [0u8; INDEX_ROOM];
+    let index = match call.read_index(rt, &mut bytes) {
+        Ok(n) => &bytes[..n],
+        Err(error) => {
+            program.fail("index", error);
+            return Ok(());
+        }
+    };
+    if !program.stack_is_enough(None, request.len()) {
         return Ok(());
     }
     let mut state = [0u8; limits::FLUENTS];
-    let budget = asked.budget;
-    let Judged { answer, line } = match asked.call {
-        Call::Walk => judge(request, &mut state, budget),
-        Call::Guarded => judge_guarded(request, &mut state, budget),
-        Call::ByCases => judge_by_cases(request, &mut state, budget),
-        Call::Indexed => judge_indexed(request, index, &mut state, budget),
-        Call::Values => Judged {
-            answer: judge_values(request, &mut state, budget),
-            line: 0,
-        },
-    };
+    let Judged { answer, line } = call.answer(request, index, &mut state, budget);
     rt.println(Numbers(answer))?;
     if let answers::GOAL_MISSED | answers::NOT_EXECUTABLE | answers::GUARD_BROKEN = answer.number {
-        let Some(fluents) = request.first() else {
-            return Err(io::Error::from(ErrorKind::InvalidData));
-        };
-        put_left(rt, asked.call, &state, *fluents)?;
+        call.put_left(rt, marks_left(request, &state)?)?;
     }
-    if asked.line {
+    if line_asked {
         rt.println(line)?;
     }
     Ok(())
 }
 
-// Reads the index, which the script has open on another descriptor, where the call takes one. Every other call is given none.
-fn read_index<R: Files>(rt: &R, call: Call, buf: &mut [u8]) -> io::Result<usize>
-    ensures { ReadsAtMost result buf.new }
-{
-    match call {
-        Call::Indexed => {
-            let mut file = open_index(rt)?;
-            read_all(&mut file, buf)
-        }
-        _ => Ok(0),
-    }
-}
-
-// The index is read once the request is.
-fn judge_request<R: Print + Files, E: Write>(
-    rt: &R,
-    err: &mut E,
-    request: &[u8],
-    asked: Asked,
-) -> io::Result<()> {
-    let mut bytes = [0u8; INDEX_ROOM];
-    match read_index(rt, asked.call, &mut bytes) {
-        Ok(n) => answer_to(rt, err, request, &bytes[..n], asked),
-        Err(error) => {
-            fail(err, "judge: index", error);
-            Ok(())
-        }
-    }
-}
-
 // The call that the argument so many from the end asks for.
-fn call_asked(rt: &impl Env, from_end: usize) -> Call {
-    if option_asked(rt, from_end, b"--guarded") {
+fn call_asked<R: Env>(program: &Program<'_, R>, from_end: usize) -> Call {
+    if program.option_asked(from_end, b"--guarded") {
         Call::Guarded
-    } else if option_asked(rt, from_end, b"--by-cases") {
+    } else if program.option_asked(from_end, b"--by-cases") {
         Call::ByCases
-    } else if option_asked(rt, from_end, b"--indexed") {
+    } else if program.option_asked(from_end, b"--indexed") {
         Call::Indexed
-    } else if option_asked(rt, from_end, b"--values") {
+    } else if program.option_asked(from_end, b"--values") {
         Call::Values
     } else {
         Call::Walk
@@ -135,24 +121,21 @@ fn call_asked(rt: &impl Env, from_end: usize) -> Call {
 }
 
 // How many words there are beside a budget: the program's name, and the options.
-fn words_of(call: Call, line: bool) -> usize {
+fn words_of(call: Call, line_asked: bool) -> usize {
     let options = match call {
         Call::Walk => 0,
         _ => 1,
     };
-    1 + options + usize::from(line)
+    1 + options + usize::from(line_asked)
 }
 
 fn main(rt: HostRuntime) {
-    let mut err = rt.stderr();
-    let line = option_asked(&rt, 1, b"--line");
-    let call = call_asked(&rt, if line { 2 } else { 1 });
-    let Some(budget) = budget_asked(&rt, words_of(call, line)) else {
-        say_budget(&mut err, "judge");
+    let program = Program::new(&rt, "judge");
+    let line_asked = program.option_asked(1, b"--line");
+    let call = call_asked(&program, if line_asked { 2 } else { 1 });
+    let Some(budget) = program.budget_asked(words_of(call, line_asked)) else {
+        program.say_budget();
         return;
     };
-    let asked = Asked { call, budget, line };
-    answer_input(&rt, &mut err, "judge", |err, request| {
-        judge_request(&rt, err, request, asked)
-    });
+    program.answer_input(|request| answer_to(&program, call, budget, line_asked, request));
 }

@@ -9,7 +9,7 @@ use std::rt::Files;
 const NAME: &str = "/proc/self/fd/3";
 
 // What the system says of the descriptor: its place in the file, and by octal digits how it is open.
-const SAID: &[u8] = b"/proc/self/fdinfo/3";
+const SAID: &str = "/proc/self/fdinfo/3";
 
 const SAID_ROOM: usize = 1024;
 

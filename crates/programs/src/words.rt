@@ -6,12 +6,20 @@ use std::fmt::Display;
 #[derive(Clone, Copy)]
 pub struct InWords(pub u8);
 
-impl Display for InWords {
-    fn fmt<W: fmt::Write>(&self, f: &mut fmt::Formatter<W>) -> fmt::Result {
-        f.write_str(words(self.0))
+impl InWords {
+    pub fn as_str(self) -> &'static str {
+        words(self.0)
     }
 }
 
+impl Display for InWords {
+    fn fmt<W: fmt::Write>(&self, f: &mut fmt::Formatter<W>) -> fmt::Result {
+        f.write_str(self.as_str())
+    }
+}
+
+// Kept: an answer's number is a byte of `Answer`, and this list is the format's table, a number and its words to a line. Names in place of the
+// numbers would say the words twice.
 fn words(number: u8) -> &'static str {
     match number {
         0 => "verified",

@@ -3,10 +3,9 @@
 #![tactic(auto)]
 
 use parsing::limits;
-use programs::{Numbers, answer_input, budget_asked, say_budget, stack_is_enough};
+use programs::{Numbers, Program};
 use std::io;
-use std::io::{ErrorKind, Write};
-use std::rt::Files;
+use std::io::ErrorKind;
 use verdicts::answers;
 use verdicts::releasing::{ROW_NUMBERS, plans, release};
 
@@ -43,28 +42,19 @@ fn answer_plans(
     Ok(())
 }
 
-// Without enough stack there is no answer, which is said.
-fn answer_to<R: Print + Files, E: Write>(
-    rt: &R,
-    err: &mut E,
-    file: &[u8],
-    budget: u32,
-) -> io::Result<()> {
-    if !stack_is_enough(rt, err, "release", b"", file.len()) {
-        return Ok(());
-    }
-    let mut row = [0u32; ROW_ROOM];
-    answer_plans(rt, file, budget, plans(file), &mut row)
-}
-
 fn main(rt: HostRuntime) {
-    let mut err = rt.stderr();
+    let program = Program::new(&rt, "release");
     // The program's name is its only other word.
-    let Some(budget) = budget_asked(&rt, 1) else {
-        say_budget(&mut err, "release");
+    let Some(budget) = program.budget_asked(1) else {
+        program.say_budget();
         return;
     };
-    answer_input(&rt, &mut err, "release", |err, file| {
-        answer_to(&rt, err, file, budget)
+    // Without enough stack there is no answer, which is said.
+    program.answer_input(|file| {
+        if !program.stack_is_enough(None, file.len()) {
+            return Ok(());
+        }
+        let mut row = [0u32; ROW_ROOM];
+        answer_plans(&rt, file, budget, plans(file), &mut row)
     });
 }

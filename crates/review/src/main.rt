@@ -3,17 +3,15 @@
 #![tactic(auto)]
 
 mod answering;
-mod arguments;
 mod printing;
 
 ghost use Rattle.std.specs.Prelude.{◌≤◌};
 
-use answering::{Outcome, outcome_at};
-use arguments::{Command, command_at, files_from, files_of};
-use programs::{fail, is_word, word_count};
+use answering::{Outcome, check_files, judge_file};
+use glintstring::check_calls::{check, check_whether};
+use programs::Program;
 use std::env::Env;
 use std::fmt::Display;
-use std::io::Write;
 use std::rt::Files;
 use std::{fmt, io};
 
@@ -60,21 +58,22 @@ fn tell<R: Print + Files>(rt: &R, tallied: bool, tally: Tally) -> io::Result<()>
 }
 
 // An answer for each file or two from argument `first` on, until one can't be printed.
-fn review_all<R: Print + io::Input + Env + Files, E: Write>(
-    rt: &R,
-    err: &mut E,
-    command: Command,
+fn review_all<F: Fn(usize, usize) -> io::Result<Outcome> + Drop>(
     first: usize,
     count: usize,
-) -> io::Result<Tally> {
-    let each = files_of(command);
+    each: usize,
+    review: F,
+) -> io::Result<Tally>
+    requires each { (1 ≤ each) × (each ≤ 2) }
+    requires review { F.IsAlwaysCallable review }
+{
     let mut tally = Tally {
         asked: 0,
         passed: 0,
         unanswered: 0,
     };
     for i in (first..count).step_by(each) {
-        let outcome = outcome_at(rt, err, command, i, i + (each - 1))?;
+        let outcome = review(i, i + (each - 1))?;
         tally.asked += 1;
         match outcome {
             Outcome::Passes => tally.passed += 1,
@@ -85,54 +84,62 @@ fn review_all<R: Print + io::Input + Env + Files, E: Write>(
     Ok(tally)
 }
 
-fn say_misused<E: Write>(err: &mut E) {
-    let _ = writeln!(
-        err,
-        "review: judge BUDGET FILE..., check REQUEST DERIVATION... or check-whether REQUEST DERIVATION... is needed"
+fn say_misused<R>(program: &Program<'_, R>) {
+    let _ = program.say(
+        "judge BUDGET FILE..., check REQUEST DERIVATION... or check-whether REQUEST DERIVATION... is needed",
     );
 }
 
-// The files are those from argument `first` on, and there are as many as whole answers take.
-fn review_files<R: Print + io::Input + Env + Files, E: Write>(
-    rt: &R,
-    err: &mut E,
-    tallied: bool,
-    command: Command,
-    first: usize,
-) {
-    let count = word_count(rt);
-    if count <= first || (count - first) % files_of(command) != 0 {
-        say_misused(err);
+// The files are those from argument `first` on, and there are as many as whole answers take, which take one each or two.
+fn review_files<R, F>(program: &Program<'_, R>, tallied: bool, first: usize, each: usize, review: F)
+where
+    R: Print + Env + Files,
+    F: Fn(usize, usize) -> io::Result<Outcome> + Drop,
+    requires each { (1 ≤ each) × (each ≤ 2) }
+    requires review { F.IsAlwaysCallable review }
+{
+    let count = program.word_count();
+    if count <= first || (count - first) % each != 0 {
+        say_misused(program);
         return;
     }
-    let told = review_all(rt, err, command, first, count).and_then(|tally| tell(
-        rt, tallied, tally,
+    let told = review_all(first, count, each, review).and_then(|tally| tell(
+        program.rt, tallied, tally,
     ));
     if let Err(error) = told {
-        fail(err, "review: standard output", error);
+        program.fail("standard output", error);
     }
 }
 
-// The command is argument i.
-fn review_from<R: Print + io::Input + Env + Files, E: Write>(
-    rt: &R,
-    err: &mut E,
+// The command is argument i. The budget of `judge` is the argument after it.
+fn review_from<R: Print + io::Input + Env + Files>(
+    program: &Program<'_, R>,
     tallied: bool,
     i: usize,
 )
     requires { i ≤ 2 }
 {
-    match command_at(rt, i) {
-        Some(command) => review_files(rt, err, tallied, command, files_from(command, i)),
-        None => say_misused(err),
+    if program.is_word(i, b"check") {
+        review_files(program, tallied, i + 1, 2, |i, j| {
+            check_files(program, [i, j], check)
+        });
+    } else if program.is_word(i, b"check-whether") {
+        review_files(program, tallied, i + 1, 2, |i, j| {
+            check_files(program, [i, j], check_whether)
+        });
+    } else if program.is_word(i, b"judge")
+        && let Some(budget) = program.number_at(i + 1)
+    {
+        review_files(program, tallied, i + 2, 1, |i, _| {
+            judge_file(program, i, budget)
+        });
+    } else {
+        say_misused(program);
     }
 }
 
 fn main(rt: HostRuntime) {
-    let mut err = rt.stderr();
-    if is_word(&rt, 1, b"--tally") {
-        review_from(&rt, &mut err, true, 2);
-    } else {
-        review_from(&rt, &mut err, false, 1);
-    }
+    let program = Program::new(&rt, "review");
+    let tallied = program.is_word(1, b"--tally");
+    review_from(&program, tallied, if tallied { 2 } else { 1 });
 }

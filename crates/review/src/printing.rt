@@ -1,70 +1,86 @@
-// The lines that an answer is told by, below the one with its words (FORMAT 12.35 to 12.37).
+// What an answer is told by, behind the names of its inputs (FORMAT 12.34 to 12.37).
 use glintstring::showing::show;
 use meaning::Answer;
-use parsing::limits;
-use programs::put_state;
-use std::io;
-use std::io::ErrorKind;
+use programs::Signs;
+use std::fmt::Display;
+use std::{fmt, io};
 use verdicts::answers;
 
 // How many bytes are printed of the part that an answer is about.
 const SHOWN: usize = 16;
 
-pub fn put_numbers(rt: &impl Print, answer: Answer) -> io::Result<()> {
-    let Answer {
-        number,
-        place,
-        count,
-        ..
-    } = answer;
-    println!(rt; "  number {number}, place {place}, count {count}")
+// An answer in words, with its numbers, the marks of the state that it leaves, where it leaves one, and the part of an input that it is about.
+#[derive(Clone, Copy)]
+struct Told<'a> {
+    answer: Answer,
+    words: &'a str,
+    left: Option<&'a [u8]>,
+    part: &'a [u8],
 }
 
-// The state, for answers 1 and 2. The first byte of a request that gets one of these is its fluent count.
-pub fn put_known(
-    rt: &impl Print,
-    number: u8,
-    state: &[u8; limits::FLUENTS],
-    request: &[u8],
-) -> io::Result<()> {
-    if let answers::GOAL_MISSED | answers::NOT_EXECUTABLE = number {
-        let Some(fluents) = request.first() else {
-            return Err(io::Error::from(ErrorKind::InvalidData));
-        };
-        rt.print("  state ")?;
-        put_state(rt, state, *fluents)?;
-    }
-    Ok(())
-}
-
-// The bytes that the answer is about, where it names an input.
-pub fn put_part<'a>(
+// What is told of an answer, behind the names of its inputs.
+pub fn put_told<'a>(
     rt: &impl Print,
     answer: Answer,
+    words: &'a str,
+    left: Option<&'a [u8]>,
     request: &'a [u8],
     derivation: &'a [u8],
 ) -> io::Result<()> {
-    let input = match answer.input {
-        answers::NEITHER_INPUT => return Ok(()),
-        answers::THE_DERIVATION => "derivation",
-        _ => "request",
+    let part = show(answer, request, derivation);
+    let told = Told {
+        answer,
+        words,
+        left,
+        part,
     };
-    let place = answer.place;
-    print!(rt; "  {input} from {place}:")?;
-    put_bytes(rt, show(answer, request, derivation))?;
-    println!(rt)
+    println!(rt; ": {told}")
 }
 
-fn put_bytes(rt: &impl Print, part: &[u8]) -> io::Result<()> {
-    if part.is_empty() {
-        return rt.print(" it ends there");
+impl Display for Told<'_> {
+    fn fmt<W: fmt::Write>(&self, f: &mut fmt::Formatter<W>) -> fmt::Result {
+        let words = self.words;
+        let Answer {
+            number,
+            input,
+            place,
+            count,
+        } = self.answer;
+        write!(
+            f,
+            "{words}\n  number {number}, place {place}, count {count}"
+        )?;
+        if let Some(marks) = self.left {
+            let signs = Signs(marks);
+            write!(f, "\n  state {signs}")?;
+        }
+        let input = match input {
+            answers::NEITHER_INPUT => return Ok(()),
+            answers::THE_DERIVATION => "derivation",
+            _ => "request",
+        };
+        let part = Part(self.part);
+        write!(f, "\n  {input} from {place}:{part}")
     }
-    let shown = &part[..part.len().min(SHOWN)];
-    for byte in shown {
-        print!(rt; " {byte}")?;
+}
+
+// The first bytes of a part of an input, each behind a space.
+#[derive(Clone, Copy)]
+struct Part<'a>(&'a [u8]);
+
+impl Display for Part<'_> {
+    fn fmt<W: fmt::Write>(&self, f: &mut fmt::Formatter<W>) -> fmt::Result {
+        let part = self.0;
+        if part.is_empty() {
+            return f.write_str(" it ends there");
+        }
+        let shown = &part[..part.len().min(SHOWN)];
+        for byte in shown {
+            write!(f, " {byte}")?;
+        }
+        if shown.len() < part.len() {
+            f.write_str(" ...")?;
+        }
+        Ok(())
     }
-    if shown.len() < part.len() {
-        rt.print(" ...")?;
-    }
-    Ok(())
 }
