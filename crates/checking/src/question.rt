@@ -94,15 +94,7 @@ fn check_fluents(
 {
     for k in 0..wide(s[whether]) {
         let at = first + 2 * k;
-        if !names(
-            s,
-            t,
-            d,
-            places,
-            lines,
-            at,
-            Some(s[whether + k + 1]),
-        ) {
+        if !names(s, t, d, places, lines, at, Some(s[whether + k + 1])) {
             return Err(Refusal::ClosingNotRight.at(at));
         }
     }

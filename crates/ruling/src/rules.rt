@@ -134,10 +134,7 @@ pub fn rule_8(d: &[u8], cited: Spot, l: Spot) -> bool
     let Concludes::Fluent(fluent) = l.conclusion else {
         return false;
     };
-    if d[told] != 1
-        || d[told + 1] / 2 != fluent
-        || !same_lists(d, cited.line, d, l.line)
-    {
+    if d[told] != 1 || d[told + 1] / 2 != fluent || !same_lists(d, cited.line, d, l.line) {
         return false;
     }
     let given = sequence_of(Form::Flags, d, cited.line);

@@ -96,16 +96,7 @@ fn put_composed(
     let last = progress.lines - 1;
     cites.push(first);
     cites.push(last);
-    put_goals(
-        s,
-        t,
-        at,
-        marks,
-        Rule::Composition,
-        &cites,
-        room,
-        progress,
-    );
+    put_goals(s, t, at, marks, Rule::Composition, &cites, room, progress);
 }
 
 // The plan from a position on.
@@ -214,16 +205,7 @@ fn put_sensing(
     let f = first_unknown(Form::Flags, s, t, a, marks);
     let mut cites = Cites::none();
     put_readings(s, t, a, at, f, marks, &mut cites, room, progress);
-    put_goals(
-        s,
-        t,
-        i,
-        marks,
-        Rule::Sensing,
-        &cites,
-        room,
-        progress,
-    );
+    put_goals(s, t, i, marks, Rule::Sensing, &cites, room, progress);
 }
 
 // The readings of fluent f and of the unknown ones above it that the action senses, or of none where f is the limit of fluents; each is followed by the plan from a position
