@@ -10,7 +10,7 @@ use lib.ListN.{length, get_or}
 use lib.Dec.{leb, ltb, eqb}
 use mir.Syntax.{w64}
 use mir.Val.{Fits}
-use borrow.Author.Tests.{ltb-true, leb-true, eqb-true, lt-ltb, le-ltb, le-leb, lt-leb, eq-eqb, ne_eqb}
+use borrow.Author.Tests.{ltb-true, leb-true, eqb-true, lt-ltb, le-ltb, eq-eqb, ne_eqb}
 use Rattle.meaning.specs.declared.Form.TheVariants.{Flags}
 use Rattle.meaning.specs.declared.Layout.{Layout}
 use Rattle.meaning.specs.declared.Layout.TheVariants.{Plain, Closing}
@@ -20,7 +20,7 @@ use Rattle.meaning.specs.Literals.{among}
 use Rattle.meaning.specs.Requests.{Table}
 use Rattle.meaning.specs.Derivations.{Line, rule_1, rule_2, rule_3, rule_4, rule_5, rule_6, rule_7, rule_8, of_one, of_two, given_by, for_lists, follows, citations_taken, citations_of, a_rule, cited_by}
 use Rattle.meaning.proofs.TestLaws.{by-test, clash, both_left, both_right, fails_false, pick_true, pick_false, each_mono}
-use Rattle.std.specs.Prelude.{Option, Some, None}
+use Rattle.std.specs.Prelude.{Some, None}
 use Rattle.parsing.specs.declared.rules.Rule.{Rule}
 use Rattle.parsing.specs.declared.rules.Rule.TheVariants.{Empty, Action, Sensing, Branching, Composition, Consequence, Look, Literal, SensingWhether, CompositionWhether, BranchingWhether}
 use Rattle.parsing.specs.Rules.{rule_number, rule_of}

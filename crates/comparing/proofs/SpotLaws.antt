@@ -14,7 +14,7 @@ use Rattle.meaning.specs.declared.Layout.{Layout}
 use Rattle.meaning.specs.declared.Layout.TheVariants.{Plain, Closing}
 use Rattle.meaning.specs.Requests.{done}
 use Rattle.meaning.specs.Derivations.{Conclusion, knows, knows_whether, Line, concludes_fluent, same_list, same_conclusion}
-use Rattle.meaning.proofs.TestLaws.{by-test, clash, pick_true, pick_false}
+use Rattle.meaning.proofs.TestLaws.{by-test, pick_true, pick_false}
 use Rattle.reading.specs.Listed.{listed, ListHere}
 use Rattle.derivation.specs.DerivationRead.{plan_ends_slot}
 use Rattle.finding.specs.Branches.{sequence_place}

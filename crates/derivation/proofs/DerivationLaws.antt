@@ -7,7 +7,7 @@ use mathlib.Core.Bool.{Bool, true, false}
 use mathlib.Core.List.{List, ◌∷◌}
 use lib.ListN.{length, set}
 use lib.Dec.{ltb, eqb}
-use borrow.Author.Tests.{lt-ltb, le-ltb, eq-eqb, ne_eqb, eqb-true, eqb-false}
+use borrow.Author.Tests.{lt-ltb, le-ltb, ne_eqb}
 use Rattle.std.specs.Prelude.{Ok, Err, Option, Some, None}
 use Rattle.parsing.specs.declared.faults.Fault.{Fault}
 use Rattle.meaning.specs.declared.Layout.{Layout}
@@ -19,7 +19,7 @@ use Rattle.meaning.specs.Requests.{Sequence}
 use Rattle.meaning.specs.declared.Form.TheVariants.{Flags}
 use Rattle.meaning.specs.Reading.{Got, got, fault, next, Met, literals, byte_at, two_bytes_at, count_at, below_at, list_at, repeated, section_at, plan_at}
 use Rattle.meaning.specs.Derivations.{Conclusion, knows, Line, Derivation, concludes_fluent, list_concluded, fluent_concluded, conclusion_at, concluded_at, closing_at, line_at, read_derivation}
-use Rattle.meaning.proofs.TestLaws.{by-test, pick_true, pick_false, either_left, either_right}
+use Rattle.meaning.proofs.TestLaws.{pick_true, pick_false, either_left, either_right}
 use Rattle.meaning.proofs.SettledLaws.{got_same, next_got}
 use Rattle.meaning.proofs.RangeLaws.{after_got}
 use Rattle.parsing.specs.declared.lists.Kind.TheVariants.{Literals}

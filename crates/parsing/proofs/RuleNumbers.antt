@@ -19,17 +19,17 @@ no_rule k early late =
     let first : (n : ℕ) → 1 ≤ n → n ≤ 8 → eqb k n ≡ false = λ n least most. ne_eqb k n (λ e. early (omega (arith, e, least)) (omega (arith, e, most))) in
     let last : (n : ℕ) → 10 ≤ n → n ≤ 12 → eqb k n ≡ false = λ n least most. ne_eqb k n (λ e. late (omega (arith, e, least)) (omega (arith, e, most))) in
     sym (
-      pick_false _ _ _ (first 1 (omega arith) (omega arith))
-      ∙ pick_false _ _ _ (first 2 (omega arith) (omega arith))
-      ∙ pick_false _ _ _ (first 3 (omega arith) (omega arith))
-      ∙ pick_false _ _ _ (first 4 (omega arith) (omega arith))
-      ∙ pick_false _ _ _ (first 5 (omega arith) (omega arith))
-      ∙ pick_false _ _ _ (first 6 (omega arith) (omega arith))
-      ∙ pick_false _ _ _ (first 7 (omega arith) (omega arith))
-      ∙ pick_false _ _ _ (first 8 (omega arith) (omega arith))
-      ∙ pick_false _ _ _ (last 10 (omega arith) (omega arith))
-      ∙ pick_false _ _ _ (last 11 (omega arith) (omega arith))
-      ∙ pick_false _ _ _ (last 12 (omega arith) (omega arith))
+    pick_false _ _ _ (first 1 (omega arith) (omega arith))
+    ∙ pick_false _ _ _ (first 2 (omega arith) (omega arith))
+    ∙ pick_false _ _ _ (first 3 (omega arith) (omega arith))
+    ∙ pick_false _ _ _ (first 4 (omega arith) (omega arith))
+    ∙ pick_false _ _ _ (first 5 (omega arith) (omega arith))
+    ∙ pick_false _ _ _ (first 6 (omega arith) (omega arith))
+    ∙ pick_false _ _ _ (first 7 (omega arith) (omega arith))
+    ∙ pick_false _ _ _ (first 8 (omega arith) (omega arith))
+    ∙ pick_false _ _ _ (last 10 (omega arith) (omega arith))
+    ∙ pick_false _ _ _ (last 11 (omega arith) (omega arith))
+    ∙ pick_false _ _ _ (last 12 (omega arith) (omega arith))
     )
 
 -- THE NUMBER of the rule that a number says is that number.

@@ -1,6 +1,6 @@
 -- The cited list has one literal exactly where its count is 1, and this is of the fluent exactly where half of it is the fluent. The lists X and the
 -- plans are compared as they stand.
-use Rattle.ruling.proofs.RuleLaws.{some_plan, settled_by_whether, list_settled, literals_there, first_there, literal_fits, not_one_literal, other_fluent, settled_elsewhere, settled}
+use Rattle.ruling.proofs.RuleLaws.{some_plan, settled_by_whether, list_settled, literals_there, first_there, not_one_literal, other_fluent, settled_elsewhere, settled}
 use Rattle.ruling.proofs.rules.rule_8.Goals as goal
 use Rattle.ruling.proofs.rules.rule_8.Goals.{then-d-told-ne1-via-then-d-told-ne1, then-d-told-ne1-via-else-d-told-ne1+then-d-told, then-d-told-ne1-via-else-d-told-ne1+else-d-told+then-not-same_lists}
 
