@@ -1,4 +1,5 @@
 pub mod Bits
 pub mod Faults
 pub mod Read
+pub mod Entries
 pub mod Masks
