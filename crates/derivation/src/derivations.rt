@@ -7,12 +7,13 @@ ghost use Rattle.parsing.specs.Rules.{number_or_none};
 ghost use Rattle.reading.specs.Noted.{noting, outcome};
 ghost use Rattle.derivation.specs.DerivationRead.{places_noted, derivation_noted, citing, ending, planned, lined, places_slots};
 
-use meaning::{Form, Layout};
+use meaning::Layout;
 use parsing::bytes::{below_at, byte_at, count_at, two_bytes_at};
 use parsing::faults::{Fault, Refusal};
 use parsing::limits;
 use parsing::lists::{Kind, list_at};
 use parsing::rules::Rule;
+use parsing::shapes::OfFlags;
 use reader::{Reader, moved, new};
 use reading::notes::Notes;
 use reading::plan::plan_at;
@@ -121,7 +122,7 @@ fn plan_first(
     requires s_len_bound { length s.now ≤ format.derivation }
     ensures { numbered result ≡ planned layout n m s.now p }
 {
-    let (_, plan_end) = plan_at(Form::Flags, n, m, s, p, t)?;
+    let (_, plan_end) = plan_at::<OfFlags>(n, m, s, p, t)?;
     let end = end_at(layout, n, s, plan_end)?;
     Ok((plan_end, end))
 }

@@ -11,6 +11,7 @@ use finding::branches::sequence_of;
 use meaning::{Form, Layout};
 use parsing::bytes::two;
 use parsing::faults::{Fault, Refusal};
+use parsing::shapes::OfFlags;
 use reading::notes;
 use reading::notes::{Notes, widened};
 use reading::plan::plan_at;
@@ -42,7 +43,7 @@ fn overlap_in_line(n: usize, m: usize, s: &[u8], p: usize, t: &mut Notes) -> Opt
 {
     let plan = sequence_of(Form::Flags, s, p);
     notes::sized(t);
-    let Ok((count, _)) = plan_at(Form::Flags, n, m, s, plan, t) else {
+    let Ok((count, _)) = plan_at::<OfFlags>(n, m, s, plan, t) else {
         return None;
     };
     overlap(Form::Flags, s, t, count)

@@ -1,16 +1,13 @@
 -- Lines of sections 3 to 5: a law for each way that a reader returns. Assumes nothing.
-use Prim.Native.Nat.{ℕ, ◌*◌}
-use mathlib.Core.Path.{◌≡◌, refl, sym, ◌∙◌, ap, subst}
+use Prim.Native.Nat.{ℕ}
+use mathlib.Core.Path.{◌≡◌, refl, sym, ◌∙◌, subst}
 use mathlib.Core.List.{List}
-use Rattle.std.specs.Prelude.{Result, Ok, Err}
 use Rattle.meaning.specs.Limits.{format}
 use Rattle.meaning.specs.declared.Form.{Form}
 use Rattle.meaning.specs.declared.Form.TheVariants.{Flags, Valued}
-use Rattle.meaning.specs.Reading.{Got, got, fault, next, below_at, list_at, value_list_at, set_value_at, literals_at, literal_at, body_at, effect_at, executability_at, knowledge_at}
-use Rattle.parsing.specs.declared.lists.Kind.TheVariants.{Literals}
-use Rattle.parsing.specs.declared.faults.Fault.{Fault}
+use Rattle.meaning.specs.Reading.{Got, got, fault, next, below_at, literal_at, body_at, effect_at, executability_at, knowledge_at}
 use Rattle.parsing.specs.Masks.{FewValues, Counted}
-use Rattle.parsing.specs.Read.{Numbered, Passed, numbered, over, passed, kind_of, action_before, effect_read, executability_read, knowledge_read}
+use Rattle.parsing.specs.Read.{Numbered, numbered, passed, action_before, effect_read, executability_read, knowledge_read}
 use Rattle.parsing.proofs.ByteLaws.{read_value, stops}
 use Rattle.parsing.proofs.ListLaws.{passed_to, passed_fault}
 
@@ -26,23 +23,6 @@ is_valued Valued = Unit {0}
 pub counted_flags : (s : List ℕ) → Counted Flags s
 unfolding Counted
 counted_flags s e = absurd (subst is_valued (sym e) tt)
-
-pub flags_listed : (form : Form) (n most : ℕ) (s : List ℕ) (p : ℕ) (r : Passed) → form ≡ Flags → over r ≡ passed (list_at (kind_of Literals) n most s p) → over r ≡ passed (literals_at form n most s p)
-unfolding kind_of
-flags_listed form n most s p r is e = rw is e
-
-pub values_listed : (form : Form) (n most : ℕ) (s : List ℕ) (p : ℕ) (r : Passed) → form ≡ Valued → over r ≡ passed (value_list_at n most s p) → over r ≡ passed (literals_at form n most s p)
-values_listed form n most s p r is e = rw is e
-
-pub flag_literal : (form : Form) (n : ℕ) (s : List ℕ) (p : ℕ) (r : Numbered) → form ≡ Flags → numbered r ≡ below_at (2 * n) s p → numbered r ≡ literal_at form n s p
-flag_literal form n s p r is e = rw is e
-
-pub value_literal : (form : Form) (n : ℕ) (s : List ℕ) (p : ℕ) (r : Numbered) → form ≡ Valued → numbered r ≡ set_value_at n s p → numbered r ≡ literal_at form n s p
-value_literal form n s p r is e = rw is e
-
-pub body_list : (form : Form) (n : ℕ) (s : List ℕ) (p : ℕ) (r : Passed) → over r ≡ passed (literals_at form n 16 s p) → over r ≡ passed (body_at format form n s p)
-unfolding body_at
-body_list form n s p r e = e
 
 -- A body that was passed over.
 module _ (form : Form) (a n : ℕ) (s : List ℕ) (p : ℕ) where

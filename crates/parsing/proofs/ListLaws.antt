@@ -6,15 +6,15 @@ use mir.Syntax.{w64}
 use mir.Val.{Fits}
 use mathlib.Core.Path.{◌≡◌, refl, sym, ◌∙◌, ap, subst}
 use mathlib.Core.Bool.{Bool, true, false}
-use mathlib.Core.List.{List, ◌∷◌}
+use mathlib.Core.List.{List, [], ◌∷◌}
 use lib.Dec.{eqb, ltb}
 use borrow.Author.Tests.{ne_eqb, lt-ltb, le-ltb, ltb-true}
-use Rattle.std.specs.Prelude.{Result, Ok, Err}
+use Rattle.std.specs.Prelude.{Ok, Err}
 use Rattle.meaning.specs.Tests.{both, pick}
 use Rattle.meaning.specs.Limits.{format, all_literals}
 use Rattle.meaning.specs.Literals.{complement}
 use Rattle.meaning.specs.Reading
-use Rattle.meaning.specs.Reading.{Got, got, fault, next, count_at, below_at, bound_of, have_complements, entry_at, entries_at, list_at}
+use Rattle.meaning.specs.Reading.{Got, got, fault, next, count_at, below_at, bound_of, have_complements, entry_at, entries_at, list_at, floor_after}
 use Rattle.meaning.proofs.TestLaws.{by-test, pick_true, pick_false, pick-cases}
 use Rattle.meaning.proofs.SettledLaws.{next_got, got_same, fault≢got}
 use Rattle.meaning.proofs.RangeLaws.{below_bound}
@@ -23,8 +23,9 @@ use Rattle.parsing.specs.declared.lists.Kind.{Kind}
 use Rattle.parsing.specs.declared.lists.Kind.TheVariants.{Literals, Fluents}
 use Rattle.parsing.specs.declared.faults.Fault.{Fault}
 use Rattle.parsing.specs.declared.faults.Refusal.TheVariants.{NotAbove, ComplementBeside}
+use Rattle.parsing.specs.Entries.{EntryRead}
 use Rattle.parsing.specs.Read.{Numbered, Passed, numbered, over, stopped, passed, kind_of, beside_floor}
-use Rattle.parsing.proofs.ByteLaws.{failing, read_value, stops}
+use Rattle.parsing.proofs.ByteLaws.{failing, read_value, stops, was_read}
 
 pub bound_literals : (k : Kind) (n : ℕ) → k ≡ Literals → 2 * n ≡ bound_of (kind_of k) n
 unfolding bound_of kind_of
@@ -116,30 +117,56 @@ module _ {A B : Type 0} where
   unfolding next passed
   whole_stops m rest e = rw⁻¹ e refl
 
--- THE LOOP over the entries: what the whole gives is what is left of it.
-module _ (k : Kind) (n : ℕ) (s : List ℕ) (p floor : ℕ) (whole : Got (Unit {0})) where
-  pub entries_done : (left : ℕ) → whole ≡ passed (entries_at (kind_of k) n s left p floor) → left ≡ 0 → got tt p ≡ whole
-  unfolding entries_at passed
-  entries_done zero w h = sym w
-  entries_done (suc left) w h = absurd (omega arith)
+-- THE LOOP over the entries, of whatever a list holds: what the whole gives is what is left of it, after the entries so far.
+pub record Ahead (entries : (left p : ℕ) → List ℕ → Got (List ℕ)) (keeps : List ℕ → Type 0) (whole : Got (Unit {0})) (left p floor : ℕ) : Type 0 where
+  pub before : List ℕ
+  pub is : whole ≡ passed (entries left p before)
+  pub above : floor ≡ floor_after before
+  pub kept : keeps before
 
-  pub entries_fault : (count i : ℕ) {j e : ℕ} → whole ≡ passed (entries_at (kind_of k) n s (count - i) p floor) → i < count
-      → fault j e ≡ entry_at (kind_of k) n s p floor → fault j e ≡ whole
-  unfolding entries_at
-  entries_fault count i w h e = at_left (count - i) (omega arith) w e
-    where
-      at_left : (left : ℕ) → 0 < left → whole ≡ passed (entries_at (kind_of k) n s left p floor) → {j e : ℕ} → fault j e ≡ entry_at (kind_of k) n s p floor → fault j e ≡ whole
-      at_left zero h w e = absurd (omega arith)
-      at_left (suc left) h w e = whole_stops (entry_at (kind_of k) n s p floor) _ e ∙ sym w
+module _ (entries : (left p : ℕ) → List ℕ → Got (List ℕ)) where
+  pub entries_first : (keeps : List ℕ → Type 0) (count start : ℕ) → keeps [] → Ahead entries keeps (passed (entries count start [])) (count - 0) start 0
+  unfolding floor_after
+  entries_first keeps count start k = record { before = []; is = ap (λ (left : ℕ). passed (entries left start [])) (omega arith); above = refl; kept = k }
 
-  pub entries_next : (count i x q : ℕ) → whole ≡ passed (entries_at (kind_of k) n s (count - i) p floor) → i < count
-      → got x q ≡ entry_at (kind_of k) n s p floor → whole ≡ passed (entries_at (kind_of k) n s (count - (i + 1)) q (x + 1))
-  unfolding entries_at next
-  entries_next count i x q w h read = at_left (count - i) (omega arith) w ∙ ap (λ (left : ℕ). passed (entries_at (kind_of k) n s left q (x + 1))) (omega arith)
-    where
-      at_left : (left : ℕ) → 0 < left → whole ≡ passed (entries_at (kind_of k) n s left p floor) → whole ≡ passed (entries_at (kind_of k) n s (left - 1) q (x + 1))
-      at_left zero h w = absurd (omega arith)
-      at_left (suc left) h w = w ∙ rw (read_value (entry_at (kind_of k) n s p floor) read, sub-one) (passed_same (entries_at (kind_of k) n s left q (x + 1)) (λ xs. x ∷ xs))
+  pub entries_over : (keeps : List ℕ → Type 0) (whole : Got (Unit {0})) (count i p floor : ℕ) → ((q : ℕ) (before : List ℕ) → entries zero q before ≡ got [] q)
+      → Ahead entries keeps whole (count - i) p floor → count ≤ i → got tt p ≡ whole
+  unfolding passed
+  entries_over keeps whole count i p floor none a h =
+      let over : count - i ≡ zero = omega arith in
+      sym (a.is ∙ ap (λ (left : ℕ). passed (entries left p a.before)) over ∙ ap passed (none p a.before))
+
+module _ (entry : ℕ → List ℕ → Got ℕ) (entries : (left p : ℕ) → List ℕ → Got (List ℕ))
+    (more : (left p : ℕ) (before : List ℕ) → entries (suc left) p before ≡ next (entry p before) (λ x q. next (entries left q (x ∷ before)) (λ xs r. got (x ∷ xs) r))) where
+  -- What is left is one entry and what is left after it.
+  one_more : (whole : Got (Unit {0})) (left p : ℕ) (before : List ℕ) → whole ≡ passed (entries left p before) → 0 < left
+      → whole ≡ passed (next (entry p before) (λ x q. next (entries (left - 1) q (x ∷ before)) (λ xs r. got (x ∷ xs) r)))
+  one_more whole zero p before w h = absurd (omega arith)
+  one_more whole (suc left) p before w h = w ∙ ap passed (more left p before) ∙ rw (sub-one) refl
+
+  module _ (old new : List ℕ → Type 0) (whole : Got (Unit {0})) (count i p floor : ℕ) (r : Numbered) (a : Ahead entries old whole (count - i) p floor) (h : i < count) (read : EntryRead (entry p) old new floor r) where
+    pub entries_stop : (why : Fault) → r ≡ Err why → over (Err why) ≡ whole
+    entries_stop why e =
+        whole_stops (entry p a.before) _ (ap numbered (sym e) ∙ read.is a.before a.kept a.above)
+        ∙ sym (one_more whole (count - i) p a.before a.is (omega arith))
+
+    pub entries_next : (x q : ℕ) → r ≡ Ok (x, q) → Ahead entries new whole (count - (i + 1)) q (x + 1)
+    unfolding floor_after next
+    entries_next x q e =
+        let one : count - i - 1 ≡ count - (i + 1) = omega arith in
+        let is : entry p a.before ≡ got x q = sym (read.is a.before a.kept a.above) ∙ ap numbered e in
+        record {
+          before = x ∷ a.before;
+          is = one_more whole (count - i) p a.before a.is (omega arith)
+              ∙ ap (λ (g : Got ℕ). passed (next g λ y t. next (entries (count - i - 1) t (y ∷ a.before)) λ ys u. got (y ∷ ys) u)) is
+              ∙ passed_same (entries (count - i - 1) q (x ∷ a.before)) (λ xs. x ∷ xs)
+              ∙ ap (λ (left : ℕ). passed (entries left q (x ∷ a.before))) one;
+          above = refl;
+          kept = read.keeps a.before x q a.kept a.above e;
+        }
+
+pub entry_fits : (entry : List ℕ → Got ℕ) (old new : List ℕ → Type 0) (floor : ℕ) (r : Numbered) (x q : ℕ) → EntryRead entry old new floor r → r ≡ Ok (x, q) → Fits w64 (x + 1)
+entry_fits entry old new floor r x q read e = let small = read.small x q e in record { fits = omega arith }
 
 -- An entry is below its bound, so one more than it fits.
 entry_below : (kind : Reading.Kind) (n : ℕ) (s : List ℕ) (p floor x q : ℕ) → entry_at kind n s p floor ≡ got x q → x < bound_of kind n
@@ -155,19 +182,38 @@ unfolding bound_of
 bound_most Reading.Kind.literals n h = omega arith
 bound_most Reading.Kind.fluents n h = omega arith
 
-pub entry_fits : (k : Kind) (n : ℕ) (s : List ℕ) (p floor x q : ℕ) → n ≤ format.fluents → got x q ≡ entry_at (kind_of k) n s p floor → Fits w64 (x + 1)
-entry_fits k n s p floor x q h read =
-    let e = read_value (entry_at (kind_of k) n s p floor) read in
-    let below = entry_below (kind_of k) n s p floor x q e in
-    let most = bound_most (kind_of k) n h in
-    record { fits = omega arith }
+-- AN ENTRY that is refused, or taken, whatever is kept.
+module _ (entry : List ℕ → Got ℕ) (old new : List ℕ → Type 0) (floor : ℕ) where
+  pub entry_refused : (why : Fault) → ((before : List ℕ) → old before → floor ≡ floor_after before → stopped why ≡ entry before) → EntryRead entry old new floor (Err why)
+  entry_refused why is = record { is = is; keeps = λ before x p o a e. absurd (fault≢got (ap numbered e)); small = λ x p e. absurd (fault≢got (ap numbered e)) }
+
+  pub entry_taken : (x q : ℕ) → ((before : List ℕ) → old before → floor ≡ floor_after before → got x q ≡ entry before) → ((before : List ℕ) → old before → new (x ∷ before)) → x < 32768
+      → EntryRead entry old new floor (Ok (x, q))
+  entry_taken x q is keeps small =
+      record {
+        is = is;
+        keeps = λ before y p o a e. subst (λ (z : ℕ). new (z ∷ before)) (got_same (ap numbered e)) (keeps before o);
+        small = λ y p e. subst (λ (z : ℕ). z < 32768) (got_same (ap numbered e)) small;
+      }
+
+-- LITERALS OF FLAGS, AND FLUENTS. Nothing is kept of the entries but which of the two they are.
+pub kind_read : (k : Kind) (n : ℕ) (s : List ℕ) (p floor : ℕ) (r : Numbered) → n ≤ format.fluents → numbered r ≡ entry_at (kind_of k) n s p floor → (first : Kind)
+    → EntryRead (λ before. entry_at (kind_of first) n s p (floor_after before)) (λ before. k ≡ first) (λ before. k ≡ first) floor r
+kind_read k n s p floor r h read first =
+    record {
+      is = λ before same above. read ∙ rw (same, above);
+      keeps = λ before x q same above e. same;
+      small = λ x q e.
+          let below = entry_below (kind_of k) n s p floor x q (was_read (entry_at (kind_of k) n s p floor) r x q read e) in
+          let most = bound_most (kind_of k) n h in
+          omega arith;
+    }
 
 -- LISTS.
-module _ (k : Kind) (n most : ℕ) (s : List ℕ) (p : ℕ) where
-  pub list_fault : {j e : ℕ} → fault j e ≡ count_at 0 most s p → fault j e ≡ passed (list_at (kind_of k) n most s p)
-  unfolding list_at
-  list_fault e = whole_stops (count_at 0 most s p) _ e
+module _ (most : ℕ) (s : List ℕ) (p : ℕ) (entries : (left p : ℕ) → List ℕ → Got (List ℕ)) (list : Got (List ℕ)) (law : list ≡ next (count_at 0 most s p) (λ c q. entries c q [])) where
+  pub list_fault : {j e : ℕ} → fault j e ≡ count_at 0 most s p → fault j e ≡ passed list
+  list_fault e = whole_stops (count_at 0 most s p) _ e ∙ ap passed (sym law)
 
-  pub list_entries : (c q : ℕ) (r : Passed) → got c q ≡ count_at 0 most s p → over r ≡ passed (entries_at (kind_of k) n s c q 0) → over r ≡ passed (list_at (kind_of k) n most s p)
-  unfolding list_at next
-  list_entries c q r e f = rw (read_value (count_at 0 most s p) e) f
+  pub list_entries : (c q : ℕ) (r : Passed) → got c q ≡ count_at 0 most s p → over r ≡ passed (entries c q []) → over r ≡ passed list
+  unfolding next
+  list_entries c q r e f = f ∙ ap passed (sym (law ∙ rw (read_value (count_at 0 most s p) e)))

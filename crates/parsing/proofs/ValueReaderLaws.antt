@@ -5,32 +5,32 @@ use native.Mathlib.Nat.{one-mul}
 use native.Mathlib.Numerals.{sub-one}
 use mir.Syntax.{w8, w64}
 use mir.Val.{Fits}
-use mathlib.Core.Path.{◌≡◌, refl, sym, ◌∙◌, ap, subst}
+use mathlib.Core.Path.{◌≡◌, sym, ◌∙◌, ap, subst}
 use mathlib.Core.Bool.{Bool, true, false}
-use mathlib.Core.List.{List, [], ◌∷◌}
-use lib.ListN.{length, get_or, set, replicate, get_or-eq_default}
+use mathlib.Core.List.{List, ◌∷◌}
+use lib.ListN.{length, get_or, set, get_or-eq_default}
 use lib.Dec.{ltb}
 use lib.Bits.{bit_and}
 use lib.Pow.{shl_exact}
 use borrow.Author.Tests.{lt-ltb, le-ltb, eq-eqb, ne_eqb}
 use Rattle.std.specs.Prelude.{Ok, Err}
 use Rattle.meaning.specs.Tests.{pick, Has}
-use Rattle.meaning.specs.Limits
 use Rattle.meaning.specs.Limits.{format}
 use Rattle.meaning.specs.Literals.{positive}
-use Rattle.meaning.specs.Values.{values_of, numbers, fits}
-use Rattle.meaning.specs.Reading.{Got, got, fault, next, count_at, below_at, values_in, value_at, leaves_one, floor_after, value_entry_at, value_entries_at, value_list_at, set_value_at, value_counts_at}
+use Rattle.meaning.specs.Values.{values_of, numbers}
+use Rattle.meaning.specs.Reading.{Got, got, fault, next, count_at, below_at, values_in, value_at, leaves_one, floor_after, value_entry_at, set_value_at, value_counts_at}
 use Rattle.meaning.proofs.TestLaws.{pick_true, pick_false, same_test, some_has, has_some}
 use Rattle.meaning.proofs.ValueLaws.{numbers_has}
 use Rattle.meaning.proofs.SettledLaws.{next_got, got_same}
 use Rattle.meaning.proofs.RangeLaws.{below_bound}
 use Rattle.parsing.specs.declared.faults.Fault.{Fault}
 use Rattle.parsing.specs.declared.faults.Refusal.TheVariants.{NotAbove, ComplementBeside, SaysIsNot}
-use Rattle.parsing.specs.Read.{Passed, numbered, over, passed}
-use Rattle.parsing.specs.Masks.{every_value, satisfying, some_left, narrowed, Allows, FewValues}
-use Rattle.parsing.proofs.ByteLaws.{failing, failed, read_value, stops}
-use Rattle.parsing.proofs.ListLaws.{passed_same, whole_stops}
-use Rattle.parsing.proofs.MaskLaws.{allows_all, allows_narrowed}
+use Rattle.parsing.specs.Entries.{EntryRead}
+use Rattle.parsing.specs.Read.{Numbered, numbered, passed, stopped}
+use Rattle.parsing.specs.Masks.{satisfying, some_left, narrowed, Allows, FewValues}
+use Rattle.parsing.proofs.ByteLaws.{failing, read_value, stops}
+use Rattle.parsing.proofs.ListLaws.{passed_same, whole_stops, entry_refused, entry_taken}
+use Rattle.parsing.proofs.MaskLaws.{allows_narrowed}
 
 -- HOW MANY VALUES a fluent has.
 module _ (s : List ℕ) (f : ℕ) where
@@ -191,49 +191,24 @@ left_is s before sets x so few near =
     low : (v : ℕ) → Has (numbers 0 (values_in s (x / 256))) v → v < 16
     low v there = let below = numbers_has 0 (values_in s (x / 256)) v there in let most = few.each (x / 256) in omega arith
 
--- THE LOOP over the entries: what the whole gives is what is left of it, after the entries so far.
-pub record EntriesAhead (n : ℕ) (s : List ℕ) (whole : Got (Unit {0})) (left p floor : ℕ) (allowed : List ℕ) : Type 0 where
-  pub before : List ℕ
-  pub is : whole ≡ passed (value_entries_at n s left p before)
-  pub above : floor ≡ floor_after before
-  pub allows : Allows s before allowed
+-- AN ENTRY, after those before it, which leave the sets that are kept.
+module _ (n : ℕ) (s : List ℕ) (p floor : ℕ) (allowed sets : List ℕ) where
+  abbrev Reads : Numbered → Type 0
+  Reads = EntryRead (value_entry_at n s p) (λ before. Allows s before allowed) (λ before. Allows s before sets) floor
 
-pub entries_first : (n : ℕ) (s : List ℕ) (count start : ℕ) → EntriesAhead n s (passed (value_entries_at n s count start [])) count start 0 (replicate format.fluents every_value)
-unfolding floor_after
-entries_first n s count start = record { before = []; is = refl; above = refl; allows = allows_all s }
-
-pub entries_over : (n : ℕ) (s : List ℕ) (whole : Got (Unit {0})) (count i p floor : ℕ) (allowed : List ℕ) → EntriesAhead n s whole (count - i) p floor allowed → count ≤ i → got tt p ≡ whole
-unfolding value_entries_at passed
-entries_over n s whole count i p floor allowed a h = at_end (subst (λ (left : ℕ). EntriesAhead n s whole left p floor allowed) {x = count - i} {y = 0} (omega arith) a)
-  where
-    at_end : EntriesAhead n s whole 0 p floor allowed → got tt p ≡ whole
-    at_end z = sym z.is
-
-module _ (n : ℕ) (s : List ℕ) (whole : Got (Unit {0})) (p floor : ℕ) (allowed : List ℕ) where
-  stop_at : (left : ℕ) {j e : ℕ} → EntriesAhead n s whole left p floor allowed → 0 < left → fault j e ≡ value_at n s p → fault j e ≡ whole
-  unfolding value_entries_at value_entry_at
-  stop_at zero a h e = absurd (omega arith)
-  stop_at (suc left) a h e = whole_stops (value_entry_at n s p a.before) _ (stops (value_at n s p) _ e) ∙ sym a.is
-
-  pub entries_stop : (count i : ℕ) {j e : ℕ} → EntriesAhead n s whole (count - i) p floor allowed → i < count → fault j e ≡ value_at n s p → fault j e ≡ whole
-  entries_stop count i a h e = stop_at (count - i) a (omega arith) e
+  pub value_entry_fault : (why : Fault) → stopped why ≡ value_at n s p → Reads (Err why)
+  unfolding value_entry_at
+  value_entry_fault why e = entry_refused _ _ _ _ why (λ before o a. stops (value_at n s p) _ e)
 
   module _ (x q : ℕ) (read : got x q ≡ value_at n s p) where
     entry_rest : (before : List ℕ) → value_entry_at n s p before ≡ pick (ltb x (floor_after before)) (λ _. fault 14 p) (λ _. pick (leaves_one s x (x ∷ before)) (λ _. got x q) (λ _. fault 15 p))
     unfolding value_entry_at next
     entry_rest before = rw (read_value (value_at n s p) read)
 
-    low_at : (left : ℕ) (f : Fault) → EntriesAhead n s whole left p floor allowed → 0 < left → x < floor → f ≡ record { refusal = NotAbove; place = p } → over (Err f) ≡ whole
-    unfolding value_entries_at next passed
-    low_at zero f a h low e = absurd (omega arith)
-    low_at (suc left) f a h low e =
-        ap failed e ∙ sym (a.is ∙ ap (λ (g : Got ℕ). passed (next g λ y r. next (value_entries_at n s left r (y ∷ a.before)) λ ys e. got (y ∷ ys) e))
-        (entry_rest a.before ∙ pick_true _ _ _ (lt-ltb x _ (subst (λ (m : ℕ). x < m) a.above low))))
+    pub value_entry_low : (f : Fault) → x < floor → f ≡ record { refusal = NotAbove; place = p } → Reads (Err f)
+    value_entry_low f low e = entry_refused _ _ _ _ f (λ before o a. ap failing e ∙ sym (entry_rest before ∙ pick_true _ _ _ (lt-ltb x _ (subst (λ (m : ℕ). x < m) a low))))
 
-    pub entries_low : (count i : ℕ) (f : Fault) → EntriesAhead n s whole (count - i) p floor allowed → i < count → x < floor → f ≡ record { refusal = NotAbove; place = p } → over (Err f) ≡ whole
-    entries_low count i f a h low e = low_at (count - i) f a (omega arith) low e
-
-    module _ (h : n ≤ format.fluents) (few : FewValues s) (sets : List ℕ) (new : sets ≡ narrowed x allowed) (values : ℕ) (so : values ≡ values_in s (x / 256))
+    module _ (h : n ≤ format.fluents) (few : FewValues s) (new : sets ≡ narrowed x allowed) (values : ℕ) (so : values ≡ values_in s (x / 256))
         (some : Bool) (told : some ≡ some_left (get_or sets (x / 256) 0) values) (high : floor ≤ x) where
       now_allows : (before : List ℕ) → Allows s before allowed → Allows s (x ∷ before) sets
       now_allows before a =
@@ -245,41 +220,12 @@ module _ (n : ℕ) (s : List ℕ) (whole : Got (Unit {0})) (p floor : ℕ) (allo
           told ∙ ap (some_left (get_or sets (x / 256) 0)) so
           ∙ left_is s before sets x (now_allows before a) few (value_fluent n s p x q h few read)
 
-      none_at : (left : ℕ) (f : Fault) → EntriesAhead n s whole left p floor allowed → 0 < left → some ≡ false → f ≡ record { refusal = ComplementBeside; place = p } → over (Err f) ≡ whole
-      unfolding value_entries_at next passed
-      none_at zero f a pos none e = absurd (omega arith)
-      none_at (suc left) f a pos none e =
-          ap failed e ∙ sym (a.is ∙ ap (λ (g : Got ℕ). passed (next g λ y r. next (value_entries_at n s left r (y ∷ a.before)) λ ys e. got (y ∷ ys) e))
-          (entry_rest a.before ∙ pick_false _ _ _ (le-ltb x _ (subst (λ (m : ℕ). m ≤ x) a.above high))
-          ∙ pick_false _ _ _ (sym (left_now a.before a.allows) ∙ none)))
+      left_rest : (before : List ℕ) → floor ≡ floor_after before → value_entry_at n s p before ≡ pick (leaves_one s x (x ∷ before)) (λ _. got x q) (λ _. fault 15 p)
+      left_rest before a = entry_rest before ∙ pick_false _ _ _ (le-ltb x _ (subst (λ (m : ℕ). m ≤ x) a high))
 
-      pub entries_none : (count i : ℕ) (f : Fault) → EntriesAhead n s whole (count - i) p floor allowed → i < count → some ≡ false → f ≡ record { refusal = ComplementBeside; place = p } → over (Err f) ≡ whole
-      entries_none count i f a pos none e = none_at (count - i) f a (omega arith) none e
+      pub value_entry_none : (f : Fault) → some ≡ false → f ≡ record { refusal = ComplementBeside; place = p } → Reads (Err f)
+      value_entry_none f none e = entry_refused _ _ _ _ f (λ before o a. ap failing e ∙ sym (left_rest before a ∙ pick_false _ _ _ (sym (left_now before o) ∙ none)))
 
-      entries_after : (left : ℕ) → EntriesAhead n s whole left p floor allowed → 0 < left → some ≡ true → EntriesAhead n s whole (left - 1) q (x + 1) sets
-      unfolding value_entries_at next floor_after
-      entries_after zero a pos yet = absurd (omega arith)
-      entries_after (suc left) a pos yet =
-          record {
-            before = x ∷ a.before;
-            is = a.is ∙ ap (λ (g : Got ℕ). passed (next g λ y r. next (value_entries_at n s left r (y ∷ a.before)) λ ys e. got (y ∷ ys) e))
-                (entry_rest a.before ∙ pick_false _ _ _ (le-ltb x _ (subst (λ (m : ℕ). m ≤ x) a.above high)) ∙ pick_true _ _ _ (sym (left_now a.before a.allows) ∙ yet))
-                ∙ passed_same (value_entries_at n s left q (x ∷ a.before)) (λ ys. x ∷ ys) ∙ ap (λ (k : ℕ). passed (value_entries_at n s k q (x ∷ a.before))) {x = left} {y = suc left - 1} (omega arith);
-            above = refl;
-            allows = now_allows a.before a.allows;
-          }
-
-      pub entries_onward : (count i : ℕ) → EntriesAhead n s whole (count - i) p floor allowed → i < count → some ≡ true → EntriesAhead n s whole (count - (i + 1)) q (x + 1) sets
-      entries_onward count i a pos yet =
-          let one : count - i - 1 ≡ count - (i + 1) = omega arith in
-          subst (λ (left : ℕ). EntriesAhead n s whole left q (x + 1) sets) one (entries_after (count - i) a (omega arith) yet)
-
--- LISTS.
-module _ (n most : ℕ) (s : List ℕ) (p : ℕ) where
-  pub value_list_fault : {j e : ℕ} → fault j e ≡ count_at 0 most s p → fault j e ≡ passed (value_list_at n most s p)
-  unfolding value_list_at
-  value_list_fault e = whole_stops (count_at 0 most s p) _ e
-
-  pub value_list_entries : (c q : ℕ) (r : Passed) → got c q ≡ count_at 0 most s p → over r ≡ passed (value_entries_at n s c q []) → over r ≡ passed (value_list_at n most s p)
-  unfolding value_list_at next
-  value_list_entries c q r e f = rw (read_value (count_at 0 most s p) e) f
+      pub value_entry_good : some ≡ true → Reads (Ok (x, q))
+      value_entry_good yet =
+          entry_taken _ _ _ _ x q (λ before o a. sym (left_rest before a ∙ pick_true _ _ _ (sym (left_now before o) ∙ yet))) now_allows (value_near n s p x q h few read)

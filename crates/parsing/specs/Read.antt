@@ -1,10 +1,12 @@
 -- What the readers answer, in the terms of the definitions.
-use Rattle.std.specs.Prelude.{ℕ, ◌-◌, Bool, List, Result, Ok, Err, ltb, eqb}
+use Rattle.std.specs.Prelude.{ℕ, ◌+◌, ◌-◌, Bool, List, Result, Ok, Err, ltb, eqb}
 use Rattle.meaning.specs.Tests.{both}
 use Rattle.meaning.specs.Literals.{complement}
 use Rattle.meaning.specs.Requests.{Effect, Executability, Knowledge}
 use Rattle.meaning.specs.Reading
-use Rattle.meaning.specs.Reading.{Got, got, fault, next, have_complements}
+use Rattle.meaning.specs.declared.Form.{Form}
+use Rattle.meaning.specs.declared.Form.TheVariants.{Flags, Valued}
+use Rattle.meaning.specs.Reading.{Got, got, fault, next, have_complements, past_values}
 use Rattle.parsing.specs.declared.lists.Kind.{Kind}
 use Rattle.parsing.specs.declared.lists.Kind.TheVariants.{Literals, Fluents}
 use Rattle.parsing.specs.declared.faults.Fault.{Fault}
@@ -41,6 +43,15 @@ kind_of k = elim k [ Literals ↦ Reading.Kind.literals | Fluents ↦ Reading.Ki
 -- The entry is the complement of the one before it (FORMAT 4.13).
 unfoldable pub beside_floor : Reading.Kind → (floor x : ℕ) → Bool
 beside_floor kind floor x = both (have_complements kind) (both (ltb 0 floor) (eqb x (complement (floor - 1))))
+
+-- What stands between the fluents' count and the actions' count.
+unfoldable pub values_first : Form → (n : ℕ) → List ℕ → ℕ → Got (Unit {0})
+values_first form n s p = past_values form n s p (got tt)
+
+-- Where the actions' count stands: behind the fluents' count, and with values behind how many each fluent has (FORMAT 2.12, 26.2).
+abbrev pub actions_place : Form → (p fluents : ℕ) → ℕ
+actions_place Flags p n = p + 1
+actions_place Valued p n = p + 1 + n
 
 -- The action of a line, and the place after its body.
 unfoldable pub action_before : ℕ → Got (List ℕ) → Got ℕ

@@ -7,7 +7,7 @@ use super::faults::{Fault, Refusal};
 pub fn wide(x: u8) -> usize
     ensures { result ≡ x }
 {
-    x as usize
+    usize::from(x)
 }
 
 // A byte, and the place after it; or the fault met. Whatever reads a number answers so.
@@ -17,13 +17,13 @@ pub fn byte_at(s: &[u8], p: usize) -> Result<(usize, usize), Fault>
     if s.len() <= p {
         return Err(Refusal::EndsTooSoon.at(s.len()));
     }
-    Ok((wide(s[p]), p + 1))
+    Ok((usize::from(s[p]), p + 1))
 }
 
 pub fn two(high: u8, low: u8) -> usize
     ensures { result ≡ high * 256 + low }
 {
-    wide(high) * 256 + wide(low)
+    usize::from(u16::from_be_bytes([high, low]))
 }
 
 // A two-byte number, high byte first.

@@ -10,5 +10,5 @@ pub mod bytes; // bytes, numbers and counts
 pub mod lists; // lists of literals and of fluents
 pub mod values; // literals of fluents with values, and lists of them
 pub mod shapes; // the form of a request, as a type
-pub mod forms; // literals as the form of a request writes them
+pub mod inputs; // an input with the numbers of its fluents and actions
 pub mod table_lines; // the lines of sections 3 to 5

@@ -45,6 +45,7 @@ pub const LINE_NUMBERS: usize = 256;
 pub const BRANCHING_BYTE: u8 = 255;
 
 // Marks of a partial state (FORMAT 4.47, 7.1).
+// Kept: a mark is a byte of the state that the C interface lends and hands out, and `3 - mark` is the other mark of a fluent; an enum would be turned into that byte, and back, at each of these places.
 pub const UNKNOWN_MARK: u8 = 0;
 
 pub const TRUE_MARK: u8 = 1;

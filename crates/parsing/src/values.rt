@@ -1,14 +1,16 @@
-ghost use Rattle.std.specs.Prelude.{◌≡◌, [], ◌%◌, ◌≤◌, ◌<◌};
+ghost use Rattle.std.specs.Prelude.{◌≡◌, ◌%◌, ◌≤◌, ◌<◌};
 ghost use Rattle.meaning.specs.Limits;
 ghost use Rattle.meaning.specs.Limits.{format};
-ghost use Rattle.meaning.specs.Reading.{values_in, value_at, value_entries_at, value_list_at, set_value_at, value_counts_at};
+ghost use Rattle.meaning.specs.Reading.{values_in, value_at, value_entry_at, value_entries_at, value_list_at, set_value_at, value_counts_at};
 ghost use Rattle.parsing.specs.Read.{numbered, over, passed};
-ghost use Rattle.parsing.specs.Masks.{satisfying, some_left, narrowed, FewValues};
+ghost use Rattle.parsing.specs.Masks.{satisfying, some_left, narrowed, Allows, FewValues};
+ghost use Rattle.parsing.specs.Entries.{values_none, values_more, values_list};
 
 use super::bits::has_bit;
-use super::bytes::{below_at, count_at, wide};
+use super::bytes::{below_at, count_at};
 use super::faults::{Fault, Refusal};
 use super::limits;
+use super::lists::Entry;
 
 // What a list leaves to each fluent: bit v of a number is there where value v satisfies all that is said of the fluent.
 pub type Allowed = [u16; limits::FLUENTS];
@@ -22,13 +24,13 @@ pub fn values_in(s: &[u8], f: usize) -> usize
     ensures value { result ≡ values_in s.now f }
     ensures upper_bound { result < 256 }
 {
-    if s.len() == 0 || wide(s[0]) <= f {
+    if s.len() == 0 || usize::from(s[0]) <= f {
         return 2;
     }
     if s.len() <= f + 1 {
         return 0;
     }
-    wide(s[f + 1])
+    usize::from(s[f + 1])
 }
 
 // A literal with its two bytes.
@@ -60,12 +62,7 @@ pub fn some_left(m: u16, values: usize) -> bool
     requires { values ≤ Limits.most_values }
     ensures { result ≡ some_left m values }
 {
-    for v in 0..values {
-        if has_bit(m, v) {
-            return true;
-        }
-    }
-    false
+    (0..values).any(|v| has_bit(m, v))
 }
 
 // What a literal leaves to its fluent.
@@ -78,39 +75,42 @@ pub fn narrow(allowed: &mut Allowed, l: usize)
     allowed[f] &= satisfying(l);
 }
 
-// A given number of literals from `start` on: the place after them.
-fn value_entries_at(n: usize, s: &[u8], count: usize, start: usize) -> Result<usize, Fault>
-    requires n_le_fluents { n ≤ format.fluents }
-    requires few_values { FewValues s.now }
-    ensures { over result ≡ passed (value_entries_at n s.now count start []) }
-{
-    let mut p = start;
-    let mut floor = 0;
-    let mut allowed = [EVERY_VALUE; limits::FLUENTS];
-    for _ in 0..count {
+// Of a list of literals it is kept what those so far leave.
+impl Entry for Allowed {
+    ghost list = { λ first n most s p. value_list_at n most s p };
+
+    ghost entries = { λ first n s left p before. value_entries_at n s left p before };
+
+    ghost entry = { λ first n s p before. value_entry_at n s p before };
+
+    ghost asks = { FewValues };
+
+    ghost kept = { λ first now s before. Allows s before now };
+
+    fn entry_at(
+        &mut self,
+        n: usize,
+        s: &[u8],
+        p: usize,
+        floor: usize,
+    ) -> Result<(usize, usize), Fault> {
         let (x, after) = value_at(n, s, p)?;
         if x < floor {
             return Err(Refusal::NotAbove.at(p));
         }
-        narrow(&mut allowed, x);
+        narrow(self, x);
         let f = x / 256;
-        if !some_left(allowed[f], values_in(s, f)) {
+        if !some_left(self[f], values_in(s, f)) {
             return Err(Refusal::ComplementBeside.at(p));
         }
-        floor = x + 1;
-        p = after;
+        Ok((x, after))
     }
-    Ok(p)
-}
 
-// A list of at most `most` literals: the place after it.
-pub fn value_list_at(n: usize, most: usize, s: &[u8], p: usize) -> Result<usize, Fault>
-    requires n_le_fluents { n ≤ format.fluents }
-    requires few_values { FewValues s.now }
-    ensures { over result ≡ passed (value_list_at n most s.now p) }
-{
-    let (count, first) = count_at(0, most, s, p)?;
-    value_entries_at(n, s, count, first)
+    ghost none_law = { λ first. values_none };
+
+    ghost more_law = { λ first. values_more };
+
+    ghost list_law = { λ first. values_list };
 }
 
 // The literal of an effect.

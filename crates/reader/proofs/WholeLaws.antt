@@ -323,12 +323,6 @@ module _ (s : List ℕ) where
       on (fault n i) = Unit {0}
 
 -- BY THE FORM.
-pub second_of_flags : (form : Form) (p n : ℕ) → form ≡ Flags → p + 1 ≡ actions_place form p n
-second_of_flags form p n is = rw is
-
-pub second_of_values : (form : Form) (p n : ℕ) → form ≡ Valued → p + 1 + n ≡ actions_place form p n
-second_of_values form p n is = rw is
-
 abbrev is_valued : Form → Type 0
 is_valued Flags = ⊥
 is_valued Valued = Unit {0}

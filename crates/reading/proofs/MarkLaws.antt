@@ -13,7 +13,6 @@ use lib.Dec.{eqb}
 use mir.Syntax.{w64}
 use mir.Val.{Fits}
 use borrow.Author.Tests.{eq-eqb, ne_eqb}
-use Rattle.parsing.specs.Read.{over}
 use Rattle.meaning.specs.Tests.{both, fails, pick, each_of}
 use Rattle.meaning.specs.Limits.{format, all_literals}
 use Rattle.meaning.specs.Literals.{positive, complement, fluent_of}

@@ -15,14 +15,14 @@ use Rattle.meaning.proofs.SettledLaws.{next_got}
 use Rattle.meaning.proofs.RangeLaws.{count_within}
 use Rattle.parsing.specs.declared.lists.Kind.TheVariants.{Fluents}
 use Rattle.parsing.specs.Masks.{Counted as Within-counts}
-use Rattle.parsing.specs.Read.{Numbered, Passed, numbered, over, passed, kind_of}
+use Rattle.parsing.specs.Read.{Numbered, Passed, numbered, over, passed, kind_of, values_first}
 use Rattle.reading.specs.Listed.{span}
-use Rattle.reading.specs.Noted.{effects, executability, knowledge, line_at, table_noted, three_sections, facts_first, actions_first, noting, outcome}
+use Rattle.reading.specs.Noted.{line_at, table_noted, three_sections, facts_first, actions_first, noting, outcome}
 use Rattle.reading.specs.Noted.{plan_slot, items_slot, goals_slot, guards_slot}
 use Rattle.reading.specs.Planned.{items_of, bytes_of, plan_noted, noting_met, outcome_met}
-use Rattle.reading.specs.Requested.{Starts, values_first, goals_first, plan_first, places_noted, goals_place, plan_place, tail_with, request_with, tail_noted, request_noted}
+use Rattle.reading.specs.Requested.{Starts, goals_first, plan_first, places_noted, goals_place, plan_place, tail_with, request_with, tail_noted, request_noted}
 use Rattle.parsing.proofs.ByteLaws.{was_read, was_stopped}
-use Rattle.parsing.proofs.ListLaws.{passed_same, passed_to, passed_stop}
+use Rattle.parsing.proofs.ListLaws.{passed_to, passed_stop}
 use Rattle.reading.proofs.NotingLaws.{with_items, met_value, met_fault, fault_met}
 use Rattle.reading.proofs.SectionLaws.{count_got}
 use Rattle.reading.proofs.ValueSizes.{few_counted, few_read}
@@ -89,14 +89,6 @@ past_noted : {A B : Type 0} (form : Form) (n : ℕ) (s : List ℕ) (q : ℕ) (k 
 unfolding values_first next
 past_noted Flags n s q k h = refl
 past_noted Valued n s q k h = next_next (value_counts_at n s q) (λ _ r. k r) h ∙ sym (next_next (value_counts_at n s q) (λ _ r. got tt r) (λ _ r. next (k r) h))
-
-pub no_values : (form : Form) (n : ℕ) (s : List ℕ) (p : ℕ) → form ≡ Flags → over (Ok p) ≡ passed (values_first form n s p)
-unfolding values_first passed
-no_values form n s p is = rw is
-
-pub some_values : (form : Form) (n : ℕ) (s : List ℕ) (p : ℕ) (r : Passed) → form ≡ Valued → over r ≡ passed (value_counts_at n s p) → over r ≡ passed (values_first form n s p)
-unfolding values_first
-some_values form n s p r is e = rw is (e ∙ sym (passed_same (value_counts_at n s p) (λ _. tt)))
 
 -- The fluents' count.
 module _ (form : Form) (s : List ℕ) (p : ℕ) (t : List ℕ) (count : Numbered) (read : numbered count ≡ (count_at 1 format.fluents s p)) where

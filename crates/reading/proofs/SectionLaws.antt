@@ -19,42 +19,9 @@ use Rattle.meaning.specs.Reading.{Got, got, fault, next, byte_at, count_at, belo
 use Rattle.meaning.proofs.SettledLaws.{got_same, next_got, fault≢got}
 use Rattle.meaning.proofs.RangeLaws.{not_refused, after_got, repeated_length}
 pub use Rattle.meaning.proofs.RangeLaws.{got_place, byte_got}
-use Rattle.reading.specs.declared.sections.Section as Code
-use Rattle.reading.specs.declared.sections.Section.TheVariants.{Effects, Executability as Runs, Knowledge as Senses}
-use Rattle.parsing.specs.Read.{Numbered, Passed, numbered, over, stopped, effect_read, executability_read, knowledge_read}
+use Rattle.parsing.specs.Read.{Numbered, Passed, numbered, stopped, effect_read, executability_read, knowledge_read}
 use Rattle.parsing.proofs.ByteLaws.{byte_none, byte_is}
-use Rattle.reading.specs.Noted.{Section, effects, executability, knowledge, section_of, Line, line_at, line_read, line_noted, action_in, note_line, none_yet, lines_noted, count_slot, section_noted, three_sections, noting, outcome, effect_lines, run_lines, appended, pair_noted, slots, effects_slot, executability_slot, knowledge_slot}
-
--- ONE OF THE THREE SECTIONS.
-module _ (form : Form) (c : Code.Section) (n m : ℕ) (s : List ℕ) (p : ℕ) (r : Numbered) where
-  pub line_effect : c ≡ Effects → numbered r ≡ effect_read (effect_at format form n m s p) → numbered r ≡ line_read (section_of c) (line_at form (section_of c) n m s p)
-  unfolding line_read line_at section_of
-  line_effect e h = rw e h
-
-  pub line_executability : c ≡ Runs → numbered r ≡ executability_read (executability_at format form n m s p) → numbered r ≡ line_read (section_of c) (line_at form (section_of c) n m s p)
-  unfolding line_read line_at section_of
-  line_executability e h = rw e h
-
-  pub line_knowledge : c ≡ Senses → numbered r ≡ knowledge_read (knowledge_at format n m s p) → numbered r ≡ line_read (section_of c) (line_at form (section_of c) n m s p)
-  unfolding line_read line_at section_of
-  line_knowledge e h = rw e h
-
-module _ (c : Code.Section) (last k p a f : ℕ) (t u : List ℕ) where
-  pub noted_effect : c ≡ Effects → u ≡ appended effect_lines last k p a t → u ≡ line_noted (section_of c) last k p a f t
-  unfolding line_noted section_of
-  noted_effect e h = rw e h
-
-  pub noted_executability : c ≡ Runs → u ≡ appended run_lines last k p a t → u ≡ line_noted (section_of c) last k p a f t
-  unfolding line_noted section_of
-  noted_executability e h = rw e h
-
-  pub noted_knowledge : c ≡ Senses → u ≡ pair_noted a f t → u ≡ line_noted (section_of c) last k p a f t
-  unfolding line_noted section_of
-  noted_knowledge e h = rw e h
-
-pub knowledge_fits : (c : Code.Section) (f : ℕ) → c ≡ Senses → (section_of c ≡ knowledge → f < format.fluents) → f < format.fluents
-unfolding section_of
-knowledge_fits c f e h = h (rw e)
+use Rattle.reading.specs.Noted.{Section, effects, executability, knowledge, Line, line_at, line_read, line_noted, action_in, note_line, none_yet, lines_noted, count_slot, section_noted, three_sections, noting, outcome, slots}
 
 -- WHAT STANDS where something was read.
 pub number_got : (bound : ℕ) (s : List ℕ) (p x q : ℕ) → below_at bound s p ≡ got x q → (p < length s) × (get_or s p 0 ≡ x) × (p + 1 ≡ q) × (x < bound)
@@ -204,12 +171,8 @@ module _ (c : Section) where
 
 module _ (form : Form) (c : Section) (n m : ℕ) (s : List ℕ) where
   -- What is noted of a given number of lines from place p on, when k are noted and `last` has the last of each action.
-  abbrev From : (left p k : ℕ) → (last t : List ℕ) → Got (List ℕ)
+  abbrev pub From : (left p k : ℕ) → (last t : List ℕ) → Got (List ℕ)
   From left p k last t = noting (lines_noted c k last) (repeated (line_at form c n m s) left p) t
-
-  pub lines_start : (count end p : ℕ) (t : List ℕ) → end ≡ count → From count p 0 none_yet t ≡ From (end - 0) p 0 (replicate format.actions 0) t
-  unfolding none_yet
-  lines_start count end p t e = let same : end - 0 ≡ count = omega arith in rw same
 
   module _ (whole : Got (List ℕ)) (count p k : ℕ) (last t : List ℕ) (so_far : whole ≡ From (count - k) p k last t) where
     pub lines_done : count ≤ k → outcome (Ok p) t ≡ whole
@@ -267,26 +230,16 @@ module _ (form : Form) (c : Section) (n m : ℕ) (s : List ℕ) where
   unfolding section_at outcome noting next
   section_none p t u why h e = rw (e, byte_none s p h)
 
-  pub section_there : (p : ℕ) (t u v : List ℕ) (r : Passed) → p < length s → u ≡ set t (count_slot c) (get_or s p 0)
-      → outcome r v ≡ From (get_or s p 0) (p + 1) 0 none_yet u → outcome r v ≡ noting (section_noted c) (section_at (line_at form c n m s) s p) t
-  unfolding section_at section_noted next
-  section_there p t u v r h put e =
-      rw (byte_is s p h) (e ∙ ap (From (get_or s p 0) (p + 1) 0 none_yet) put ∙ counted (get_or s p 0) (p + 1) t (count_slot c) _ refl)
-
-pub slot_effects : (c : Code.Section) → c ≡ Effects → effects_slot ≡ count_slot (section_of c)
-unfolding count_slot section_of
-slot_effects c e = rw e
-
-pub slot_executability : (c : Code.Section) → c ≡ Runs → executability_slot ≡ count_slot (section_of c)
-unfolding count_slot section_of
-slot_executability c e = rw e
-
-pub slot_knowledge : (c : Code.Section) → c ≡ Senses → knowledge_slot ≡ count_slot (section_of c)
-unfolding count_slot section_of
-slot_knowledge c e = rw e
-
-pub count_noted : (c : Code.Section) (count x slot : ℕ) (t u : List ℕ) → slot ≡ count_slot (section_of c) → x ≡ count → u ≡ set t slot x → u ≡ set t (count_slot (section_of c)) count
-count_noted c count x slot t u at_slot is e = e ∙ rw (at_slot, is)
+  pub section_starts : (p count slot : ℕ) (t u : List ℕ) → p < length s → count ≡ get_or s p 0 → slot ≡ count_slot c → u ≡ set t slot count
+      → noting (section_noted c) (section_at (line_at form c n m s) s p) t ≡ From (count - 0) (p + 1) 0 (replicate format.actions 0) u
+  unfolding section_at section_noted next none_yet
+  section_starts p count slot t u h is at_slot put =
+      let all : count ≡ count - 0 = omega arith in
+      rw (byte_is s p h, sym is) (
+      sym (counted count (p + 1) t (count_slot c) _ refl)
+      ∙ ap (From count (p + 1) 0 none_yet) (ap (λ (i : ℕ). set t i count) (sym at_slot) ∙ sym put)
+      ∙ ap (λ (left : ℕ). From left (p + 1) 0 none_yet u) all
+      )
 
 slot_most : (c : Section) → count_slot c < slots
 unfolding count_slot
@@ -294,8 +247,8 @@ slot_most effects = omega arith
 slot_most executability = omega arith
 slot_most knowledge = omega arith
 
-pub slot_fits : (c : Code.Section) (slot : ℕ) → slot ≡ count_slot (section_of c) → slot < slots
-slot_fits c slot e = rw e (slot_most (section_of c))
+pub slot_there : (c : Section) (slot : ℕ) → slot ≡ count_slot c → slot < slots
+slot_there c slot e = rw e (slot_most c)
 
 -- WHAT WAS READ WITH THE TABLE, from what the reader answered.
 module _ {A : Type 0} (note : A → List ℕ → List ℕ) (g : Got A) (r : Passed) (t u : List ℕ) (read : outcome r u ≡ noting note g t) where
@@ -308,22 +261,21 @@ module _ {A : Type 0} (note : A → List ℕ → List ℕ) (g : Got A) (r : Pass
   noting_fault why is = fault_first g (λ x. note x t) _ _ (sym read ∙ rw is)
 
 -- The three sections, one after another.
-module _ (form : Form) (n m : ℕ) (s : List ℕ) (p : ℕ) (t u : List ℕ) (first : Passed) (read : outcome first u ≡ noting (section_noted (section_of Effects)) (section_at (line_at form (section_of Effects) n m s) s p) t) where
+module _ (form : Form) (n m : ℕ) (s : List ℕ) (p : ℕ) (t u : List ℕ) (first : Passed) (read : outcome first u ≡ noting (section_noted effects) (section_at (line_at form effects n m s) s p) t) where
   pub three_first : (why : Fault) (v : List ℕ) → first ≡ Err why → outcome (Err why) v ≡ three_sections form n m s p t
-  unfolding three_sections next section_of outcome
+  unfolding three_sections next outcome
   three_first why v is = rw (noting_fault (section_noted effects) (section_at (line_at form effects n m s) s p) first t u read why is)
 
-  module _ (q : ℕ) (is : first ≡ Ok q) (then : Passed) (v : List ℕ) (read-too : outcome then v ≡ noting (section_noted (section_of Runs)) (section_at (line_at form (section_of Runs) n m s) s q) u) where
+  module _ (q : ℕ) (is : first ≡ Ok q) (then : Passed) (v : List ℕ) (read-too : outcome then v ≡ noting (section_noted executability) (section_at (line_at form executability n m s) s q) u) where
     first_got : (es : List Effect) × (section_at (line_at form effects n m s) s p ≡ got es q) × (u ≡ section_noted effects es t)
-    unfolding section_of
     first_got = noting_got (section_noted effects) (section_at (line_at form effects n m s) s p) first t u read q is
 
     pub three_second : (why : Fault) (w : List ℕ) → then ≡ Err why → outcome (Err why) w ≡ three_sections form n m s p t
-    unfolding three_sections next section_of outcome
+    unfolding three_sections next outcome
     three_second why w e = rw (first_got.1, noting_fault (section_noted executability) (section_at (line_at form executability n m s) s q) then u v read-too why e)
 
-    pub three_whole : (r : ℕ) (last : Passed) (w : List ℕ) → then ≡ Ok r → outcome last w ≡ noting (section_noted (section_of Senses)) (section_at (line_at form (section_of Senses) n m s) s r) v → outcome last w ≡ three_sections form n m s p t
-    unfolding three_sections next section_of noting
+    pub three_whole : (r : ℕ) (last : Passed) (w : List ℕ) → then ≡ Ok r → outcome last w ≡ noting (section_noted knowledge) (section_at (line_at form knowledge n m s) s r) v → outcome last w ≡ three_sections form n m s p t
+    unfolding three_sections next noting
     three_whole r last w e read-last =
         let g = first_got in
         let h = noting_got (section_noted executability) (section_at (line_at form executability n m s) s q) then u v read-too r e in

@@ -10,10 +10,10 @@ use Rattle.parsing.specs.declared.faults.Fault.{Fault}
 use Rattle.meaning.specs.Limits.{format}
 use Rattle.meaning.specs.Requests.{Sequence, item, Item}
 use Rattle.meaning.specs.declared.Form.{Form}
-use Rattle.meaning.specs.Reading.{Got, got, fault, next, Met, Part, two_bytes_at, item_at, items_at, sequence_at, branching_at, plan_at}
+use Rattle.meaning.specs.Reading.{Got, got, next, Met, Part, two_bytes_at, item_at, items_at, sequence_at, branching_at, plan_at}
 use Rattle.meaning.proofs.SettledLaws.{got_same}
 use Rattle.meaning.proofs.RangeLaws.{after_got}
-use Rattle.parsing.specs.Read.{Numbered, numbered, over, stopped}
+use Rattle.parsing.specs.Read.{Numbered, numbered, stopped}
 use Rattle.reading.specs.Noted.{item_next}
 use Rattle.reading.specs.Planned.{items_in, bytes_in, following, number_after, branch_noted, rest_noted, item_noted, sequence_noted, plan_noted, noting_met, outcome_met}
 use Rattle.parsing.proofs.ByteLaws.{was_read, was_stopped}

@@ -1,14 +1,12 @@
 -- What reading leaves in its notes, as a function of what the definitions read. Lines are numbered from 1 in file order, so that 0 is no line; items from 0.
-use Rattle.std.specs.Prelude.{ℕ, ◌+◌, ◌-◌, ◌*◌, ◌/◌, ◌%◌, Bool, List, [], ◌∷◌, Ok, Err, length, get_or, set, replicate, eqb, ltb}
+use Rattle.std.specs.Prelude.{ℕ, ◌+◌, ◌-◌, ◌*◌, ◌/◌, ◌%◌, ◌≡◌, refl, Bool, List, [], ◌∷◌, Ok, Err, length, get_or, set, replicate, eqb, ltb}
 use Rattle.meaning.specs.Tests.{pick}
 use Rattle.meaning.specs.Limits.{format}
 use Rattle.meaning.specs.Requests.{Effect, Executability, Knowledge, Table}
 use Rattle.meaning.specs.declared.Form.{Form}
-use Rattle.meaning.specs.Reading.{Got, got, fault, next, count_at, literals_at, effect_at, executability_at, knowledge_at, section_at}
+use Rattle.meaning.specs.Reading.{Got, got, next, count_at, literals_at, effect_at, executability_at, knowledge_at, section_at}
 use Rattle.parsing.specs.Read.{Passed, stopped, effect_read, executability_read, knowledge_read}
 use Rattle.parsing.specs.Bits.{bit_of, with_bit}
-use Rattle.reading.specs.declared.sections.Section as Code
-use Rattle.reading.specs.declared.sections.Section.TheVariants.{Effects, Executability as Runs, Knowledge as Senses}
 
 -- THE SLOTS.
 -- Item i: the place of its first byte.
@@ -143,9 +141,6 @@ pair_noted a f t = raised (sensed_to + a) (f + 1) (raised (sensed_from + a) (for
 pub data Section : Type 0 where
   effects executability knowledge : Section
 
-unfoldable pub section_of : Code.Section → Section
-section_of c = elim c [ Effects ↦ effects | Runs ↦ executability | Senses ↦ knowledge ]
-
 abbrev pub Line : Section → Type 0
 Line effects = Effect
 Line executability = Executability
@@ -191,6 +186,18 @@ unfoldable pub count_slot : Section → ℕ
 count_slot effects = effects_slot
 count_slot executability = executability_slot
 count_slot knowledge = knowledge_slot
+
+pub effects_counted : effects_slot ≡ count_slot effects
+unfolding count_slot
+effects_counted = refl
+
+pub executability_counted : executability_slot ≡ count_slot executability
+unfolding count_slot
+executability_counted = refl
+
+pub knowledge_counted : knowledge_slot ≡ count_slot knowledge
+unfolding count_slot
+knowledge_counted = refl
 
 unfoldable pub section_noted : (c : Section) → List (Line c) → List ℕ → List ℕ
 section_noted c xs t = lines_noted c 0 none_yet xs (set t (count_slot c) (length xs))

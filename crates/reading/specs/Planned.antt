@@ -4,7 +4,7 @@ use Rattle.meaning.specs.Tests.{pick}
 use Rattle.meaning.specs.Limits.{format}
 use Rattle.meaning.specs.Requests.{Sequence, done, item, Item, act, branching, Branches, none, branch}
 use Rattle.meaning.specs.declared.Form.{Form}
-use Rattle.meaning.specs.Reading.{Got, got, fault, next, Met, body_at, sequence_at, branching_at}
+use Rattle.meaning.specs.Reading.{Got, got, next, Met, body_at, sequence_at, branching_at}
 use Rattle.parsing.specs.Read.{Numbered, stopped}
 use Rattle.reading.specs.Listed.{span}
 use Rattle.reading.specs.Noted.{item_place, item_next, branch_place, branch_item, around_from}

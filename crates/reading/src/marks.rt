@@ -6,7 +6,6 @@ ghost use Rattle.meaning.specs.Asking.{short_by};
 ghost use Rattle.reading.specs.Listed.{listed, ListHere, holds_as, look_at};
 
 use super::listed::listed;
-use parsing::bytes::wide;
 use parsing::limits;
 
 // A partial state: a mark for each fluent.
@@ -53,9 +52,12 @@ pub fn each_holds(test: Test, marks: &Marks, s: &[u8], p: usize) -> bool
     requires { ListHere all_literals s.now p }
     ensures { result ≡ each_of (holds_as test marks.now) (listed s.now p) }
 {
-    listed(s, p).iter().all(|l| holds(test, marks, wide(*l)))
+    listed(s, p)
+        .iter()
+        .all(|l| holds(test, marks, usize::from(*l)))
 }
 
+// Kept: one pass tells both, whether each is known and whether each is possible, so that no byte of a body is read twice (`tests/gate/reads`); `all` and `any` tell one.
 // What a look at the list at p tells: each literal is known true, or each is possible and some is not known, or some is known false.
 pub fn look_at(marks: &Marks, s: &[u8], p: usize) -> Look
     requires { ListHere all_literals s.now p }
@@ -63,7 +65,7 @@ pub fn look_at(marks: &Marks, s: &[u8], p: usize) -> Look
 {
     let mut sure = true;
     for literal in listed(s, p) {
-        let l = wide(*literal);
+        let l = usize::from(*literal);
         let mark = mark_of(l);
         if marks[l / 2] == 3 - mark {
             return Look::Never;
@@ -80,7 +82,7 @@ pub fn short_by(marks: &Marks, s: &[u8], p: usize) -> usize
 {
     listed(s, p)
         .iter()
-        .filter(|l| !holds(Test::Known, marks, wide(**l)))
+        .filter(|l| !holds(Test::Known, marks, usize::from(**l)))
         .count()
 }
 
@@ -91,7 +93,7 @@ pub fn state_of(s: &[u8], p: usize) -> Marks
 {
     let mut marks = [limits::UNKNOWN_MARK; limits::FLUENTS];
     for l in listed(s, p) {
-        let l = wide(*l);
+        let l = usize::from(*l);
         marks[l / 2] = mark_of(l);
     }
     marks

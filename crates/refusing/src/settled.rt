@@ -17,6 +17,7 @@ use super::refusal_17::mixed;
 use super::refusal_18::overlap;
 use meaning::Form;
 use parsing::faults::{Fault, Refusal};
+use parsing::shapes::{OfFlags, OfValues};
 use reader::whole::{read_guarded, read_request};
 use reading::notes;
 use reading::notes::{Notes, get};
@@ -85,7 +86,7 @@ pub fn settle(s: &[u8], t: &mut Notes) -> Result<usize, Fault>
     requires { t.old ≡ blank }
     ensures { outcome result t.new ≡ noting (request_noted Flags) (settled format s.now) t.old }
 {
-    let end = read_request(Form::Flags, s, t)?;
+    let end = read_request::<OfFlags>(s, t)?;
     refused(Form::Flags, s, t, end)
 }
 
@@ -94,6 +95,6 @@ pub fn settle_values(s: &[u8], t: &mut Notes) -> Result<usize, Fault>
     requires { t.old ≡ blank }
     ensures { outcome result t.new ≡ noting (request_noted Valued) (settled_values format s.now) t.old }
 {
-    let end = read_request(Form::Valued, s, t)?;
+    let end = read_request::<OfValues>(s, t)?;
     refused(Form::Valued, s, t, end)
 }

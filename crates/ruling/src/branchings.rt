@@ -13,6 +13,7 @@ use finding::branches::{next_item, next_place, sequence_of};
 use meaning::Form;
 use parsing::bytes::wide;
 use parsing::limits;
+use parsing::shapes::OfFlags;
 use reading::marks::{Marks, Test, each_holds, state_of};
 use reading::notes;
 use reading::notes::Notes;
@@ -86,7 +87,7 @@ pub fn rule_4(n: usize, m: usize, d: &[u8], t: &mut Notes, cited: Spot, l: Spot)
         return false;
     }
     notes::sized(t);
-    let Ok(_) = plan_at(Form::Flags, n, m, d, plan, t) else {
+    let Ok(_) = plan_at::<OfFlags>(n, m, d, plan, t) else {
         return false;
     };
     let held = state_of(d, l.line);

@@ -38,7 +38,7 @@ fn open_file(file: &[u8], t: &mut Notes) -> Result<(usize, usize), Fault>
     if limits::REQUEST < file.len() {
         return Err(Refusal::TooLong.at(0));
     }
-    let plans = table_at(Form::Flags, file, 0, t)?;
+    let plans = table_at::<OfFlags>(file, 0, t)?;
     count_at(1, limits::PLANS, file, plans)
 }
 
@@ -50,7 +50,7 @@ fn byte_after(n: usize, m: usize, file: &[u8], plans: usize, start: usize) -> Op
     let mut t: Notes = [0u16; notes::SLOTS];
     let mut p = start;
     for _ in 0..plans {
-        match request_at(Form::Flags, n, m, file, p, &mut t) {
+        match request_at::<OfFlags>(n, m, file, p, &mut t) {
             Ok(after) => p = after,
             Err(_) => return None,
         }
@@ -122,7 +122,7 @@ fn answer_plans(
 {
     let mut p = start;
     for k in 0..plans {
-        match request_at(Form::Flags, n, m, file, p, t) {
+        match request_at::<OfFlags>(n, m, file, p, t) {
             Ok(after) => {
                 let answer = answer_plan(&Request::of(file, t), budget);
                 put_answer(row, k, answer);

@@ -7,4 +7,4 @@ pub returns-in_err-end : goal.returns-in_err-end
 returns-in_err-end c = search (rules, guards_fault)
 
 pub returns : goal.returns
-returns c = guards_there _ _ _ c.wide-n.ensures _ _ c.list_at.ensures _ _ _ c.in_ok-end.was c.put.ensures c.nothing_after.ensures
+returns c = guards_there _ _ _ c.from-n.ensures _ _ c.list_at.ensures _ _ _ c.in_ok-end.was c.put.ensures c.nothing_after.ensures

@@ -4,10 +4,10 @@ use Rattle.reader.proofs.WholeLaws.{request_long, request_there, request_fault}
 use Rattle.reader.proofs.whole.read_request.Goals as goal
 
 pub returns-then-s-gt-REQUEST : goal.returns-then-s-gt-REQUEST
-returns-then-s-gt-REQUEST c = search (rules, request_long)
+returns-then-s-gt-REQUEST g c = search (rules, request_long)
 
 pub returns-in_err-end : goal.returns-in_err-end
-returns-in_err-end c = search (rules, request_fault)
+returns-in_err-end g c = search (rules, request_fault)
 
 pub returns : goal.returns
-returns c = search (rules, request_there)
+returns g c = search (rules, request_there)

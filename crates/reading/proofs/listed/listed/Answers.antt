@@ -3,4 +3,4 @@ use Rattle.reading.proofs.ListedLaws.{listed_taken}
 use Rattle.reading.proofs.listed.listed.Goals as goal
 
 pub returns-clause-entries : goal.returns-clause-entries
-returns-clause-entries c = listed_taken _ _ c.requires _ c.wide.ensures
+returns-clause-entries c = listed_taken _ _ c.requires _ c.from.ensures
