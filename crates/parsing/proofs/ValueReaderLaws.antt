@@ -172,9 +172,6 @@ module _ (n : ℕ) (s : List ℕ) (p x q : ℕ) (h : n ≤ format.fluents) (few 
   pub value_fluent : x / 256 < format.fluents
   value_fluent = let r = in_range n s p x q h few (read_value (value_at n s p) read) in let low = r.near in omega arith
 
-  pub value_floor_fits : Fits w64 (x + 1)
-  value_floor_fits = let r = in_range n s p x q h few (read_value (value_at n s p) read) in let low = r.near in record { fits = omega arith }
-
 pub few_enough : (s : List ℕ) (f values : ℕ) → FewValues s → values ≡ values_in s f → values ≤ 16
 few_enough s f values few e = subst (λ (v : ℕ). v ≤ 16) (sym e) (few.each f)
 
