@@ -10,14 +10,14 @@ ghost use Rattle.meaning.specs.declared.Form.TheVariants.{Flags};
 use super::going::{NOT_VERIFIED, Step, answer_call, refused, refused_step};
 use super::sensed::{Fluents, sensed_by};
 use parsing::limits;
+use parsing::shapes::OfFlags;
 use reading::marks::{Marks, state_of};
 use reading::notes;
 use reading::notes::{Notes, get};
 use refusing::settled::settle;
 use steps::onward::start_of;
-use verdicts::answers;
 use steps::request::Request;
-use parsing::shapes::OfFlags;
+use verdicts::answers;
 
 // Each of the marks is one of the three.
 fn is_marked(marks: &Marks) -> bool

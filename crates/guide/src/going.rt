@@ -11,19 +11,19 @@ ghost use Rattle.meaning.specs.declared.Form.TheVariants.{Flags};
 
 use super::sensed::{is_against, sensed_by, taken_over};
 use guidance::Told;
-use meaning::{Answer};
+use meaning::Answer;
 use parsing::bytes::wide;
 use parsing::limits;
+use parsing::shapes::OfFlags;
 use reading::marks::Marks;
 use reading::notes;
-use reading::notes::{get};
+use reading::notes::get;
 use steps::actions::{can_be_run, state_after};
 use steps::onward::{chosen, follow};
+use steps::request::Request;
 use steps::sensing::is_sensing;
 use verdicts::answers;
 use verdicts::answers::uncounted;
-use steps::request::Request;
-use parsing::shapes::OfFlags;
 
 // The answers that a guide alone gives (FORMAT 25.5, 25.13, 25.14).
 // Kept: an answer's number is a byte of `Answer`, as the definitions have it.
@@ -133,7 +133,13 @@ fn go_on(r: &Request<OfFlags>, at: usize, state: &Marks) -> Step
 }
 
 // A call of a guide that waits at `at`, with `marks`, for the readings of `action`.
-fn step_after(r: &Request<OfFlags>, action: usize, at: usize, marks: &Marks, readings: &[u8]) -> Step
+fn step_after(
+    r: &Request<OfFlags>,
+    action: usize,
+    at: usize,
+    marks: &Marks,
+    readings: &[u8],
+) -> Step
     requires action_lt_actions { action < format.actions }
     requires position { Position (plan_in Flags r.now.bytes.now r.now.notes.now) at }
     requires marked { Marked marks.now }

@@ -8,10 +8,10 @@ ghost use Rattle.guide.specs.GuideHeld.{fluents_of};
 ghost use Rattle.meaning.specs.declared.Form.TheVariants.{Flags};
 
 use parsing::limits;
-use reading::marks::Marks;
-use steps::sensing::looks_at;
-use steps::request::Request;
 use parsing::shapes::OfFlags;
+use reading::marks::Marks;
+use steps::request::Request;
+use steps::sensing::looks_at;
 
 // The fluents whose readings a call brings: so many, from the start of the row on, ascending, and 0 behind them.
 // Kept: no heap is used, so that a list has its number beside it.
