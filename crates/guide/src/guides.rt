@@ -3,10 +3,10 @@ ghost use Rattle.meaning.specs.Limits.{format};
 ghost use Rattle.guidance.specs.Guides.{refused_start, start, next};
 ghost use Rattle.guidance.specs.Guided.{asked_for};
 ghost use Rattle.guide.specs.declared.guides.Stage.TheVariants.{Going};
-ghost use Rattle.guide.specs.GuideHeld.{fluents_of, guide_held, turned, request_of, guide_of, started_of, turn_of, Begins, KeptGuide, OwnCopy};
+ghost use Rattle.guide.specs.GuideHeld.{fluents_of, request_of, guide_of, started_of, turn_of, Begins, KeptGuide, OwnCopy};
 
 use super::calls::{asked, at_start, call, none_asked};
-use super::going::{NOT_VERIFIED, Step};
+use super::going::NOT_VERIFIED;
 use super::sensed::Fluents;
 use glintstring::judging::judge;
 use guidance::Told;

@@ -1,6 +1,5 @@
 // An index against the one that building gives (FORMAT 23.14).
 ghost use Rattle.std.specs.Prelude.{◌≡◌, ◌≤◌, ◌==◌, not, length, take, zip, position};
-ghost use Rattle.meaning.specs.Limits.{most_index};
 ghost use Rattle.meaning.specs.Indexes.{first_difference, index_of};
 ghost use Rattle.finding.specs.Places.{found};
 ghost use Rattle.finding.specs.TablesHere.{table_in, TableHere};

@@ -29,7 +29,7 @@ pub enum Refusal {
 impl From<Refusal> for u8 {
     ghost from_gives = { λ refusal number. number ≡ number_of refusal };
 
-    // Kept: a cast is how the number of a variant is read, and this is the one place where it is.
+    // Kept: a cast is how the number of a variant is read.
     fn from(refusal: Refusal) -> u8 {
         refusal as u8
     }

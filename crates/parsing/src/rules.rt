@@ -21,6 +21,7 @@ pub enum Rule {
 impl From<Rule> for u8 {
     ghost from_gives = { λ rule number. number ≡ rule_number rule };
 
+    // Kept: a cast is how the number of a variant is read.
     fn from(rule: Rule) -> u8 {
         rule as u8
     }

@@ -65,7 +65,7 @@ pub fn widened(x: u16) -> usize
     usize::from(x)
 }
 
-// The notes have all their slots. A reference to them does not tell so, but a slice does.
+// The notes have all their slots.
 pub fn sized(t: &Notes)
     ensures { length t.now ≡ slots }
 {

@@ -21,15 +21,15 @@ use Rattle.steps.specs.Rests.{Nexts, InsideNexts, UnderNexts}
 use Rattle.steps.specs.AtHand.{GuardsHere, Ends, AtHand}
 
 -- PLANS ARE A SET: each has a code of its own, a tree of numbers.
-abbrev first_of : Gv → Gv
-first_of gnil = gnil
-first_of (gnum n) = gnil
-first_of (gcons a b) = a
+abbrev first_part : Gv → Gv
+first_part gnil = gnil
+first_part (gnum n) = gnil
+first_part (gcons a b) = a
 
-abbrev second_of : Gv → Gv
-second_of gnil = gnil
-second_of (gnum n) = gnil
-second_of (gcons a b) = b
+abbrev second_part : Gv → Gv
+second_part gnil = gnil
+second_part (gnum n) = gnil
+second_part (gcons a b) = b
 
 abbrev IsPair : Gv → Type 0
 IsPair gnil = ⊥
@@ -55,22 +55,22 @@ module _ {L : Type 0} (l : Coded L) where
     sequence_one done done e = refl
     sequence_one done (item j there) e = absurd (subst IsPair (sym e) tt)
     sequence_one (item i rest) done e = absurd (subst IsPair e tt)
-    sequence_one (item i rest) (item j there) e = λ k. item (item_one i j (ap first_of e) k) (sequence_one rest there (ap second_of e) k)
+    sequence_one (item i rest) (item j there) e = λ k. item (item_one i j (ap first_part e) k) (sequence_one rest there (ap second_part e) k)
 
     item_one : (x y : Item L) → code_item x ≡ code_item y → x ≡ y
-    item_one (act p a) (act q b) e = λ k. act (coded_ℕ.inj p q (ap first_of e) k) (coded_ℕ.inj a b (ap second_of e) k)
-    item_one (act p a) (branching q bs) e = absurd (subst IsPair (sym (ap second_of e)) tt)
-    item_one (branching p hs) (act q b) e = absurd (subst IsPair (ap second_of e) tt)
-    item_one (branching p hs) (branching q bs) e = λ k. branching (coded_ℕ.inj p q (ap first_of e) k) (branches_one hs bs (ap (λ g. second_of (second_of g)) e) k)
+    item_one (act p a) (act q b) e = λ k. act (coded_ℕ.inj p q (ap first_part e) k) (coded_ℕ.inj a b (ap second_part e) k)
+    item_one (act p a) (branching q bs) e = absurd (subst IsPair (sym (ap second_part e)) tt)
+    item_one (branching p hs) (act q b) e = absurd (subst IsPair (ap second_part e) tt)
+    item_one (branching p hs) (branching q bs) e = λ k. branching (coded_ℕ.inj p q (ap first_part e) k) (branches_one hs bs (ap (λ g. second_part (second_part g)) e) k)
 
     branches_one : (x y : Branches L) → code_branches x ≡ code_branches y → x ≡ y
     branches_one none none e = refl
     branches_one none (branch d g there) e = absurd (subst IsPair (sym e) tt)
     branches_one (branch c b rest) none e = absurd (subst IsPair e tt)
     branches_one (branch c b rest) (branch d g there) e = λ k.
-        branch ((coded_list l).inj c d (ap first_of e) k)
-        (sequence_one b g (ap (λ h. first_of (second_of h)) e) k)
-        (branches_one rest there (ap (λ h. second_of (second_of h)) e) k)
+        branch ((coded_list l).inj c d (ap first_part e) k)
+        (sequence_one b g (ap (λ h. first_part (second_part h)) e) k)
+        (branches_one rest there (ap (λ h. second_part (second_part h)) e) k)
 
   pub coded_sequence : Coded (Sequence L)
   coded_sequence = record { code = code_sequence; inj = sequence_one }

@@ -4,7 +4,7 @@ ghost use Rattle.meaning.specs.Lines.{executability_of};
 ghost use Rattle.meaning.specs.States.{known, can_be_run, state_after};
 ghost use Rattle.meaning.specs.Asking.{nearest, asked};
 ghost use Rattle.steps.specs.Held.{table_in};
-ghost use Rattle.steps.specs.AtHand.{AtHand, Marked};
+ghost use Rattle.steps.specs.AtHand.{Marked};
 ghost use Rattle.meaning.specs.declared.Form.TheVariants.{Flags};
 
 use super::request::Request;

@@ -6,7 +6,7 @@ ghost use Rattle.meaning.specs.Limits.{format};
 ghost use Rattle.meaning.specs.States.{can_be_run};
 ghost use Rattle.meaning.specs.ByCases.{fillings, runs_by_cases, shared_marks, after_each, after_cases, too_many, cases_does};
 ghost use Rattle.steps.specs.Held.{table_in};
-ghost use Rattle.steps.specs.AtHand.{AtHand, Marked};
+ghost use Rattle.steps.specs.AtHand.{Marked};
 ghost use Rattle.steps.specs.Steps.{tried_as};
 ghost use Rattle.steps.specs.Opened.{open_in, Filling};
 ghost use Rattle.meaning.specs.declared.Form.TheVariants.{Flags};
@@ -18,7 +18,6 @@ use parsing::bytes::wide;
 use parsing::limits;
 use parsing::shapes::OfFlags;
 use reading::marks::Marks;
-use reading::notes::Notes;
 
 // What trying an action gives: it can't be run, it has too many cases or readings, or it can be run.
 #[derive(Clone, Copy)]

@@ -1,18 +1,17 @@
 ghost use Rattle.std.specs.Prelude.{◌≡◌, ◌+◌, ◌<◌};
-ghost use Rattle.meaning.specs.Reading.{placed, placed_twos, placed_as, literals_in};
+ghost use Rattle.meaning.specs.Reading.{placed, placed_twos, literals_in};
 ghost use Rattle.meaning.specs.Walk.{first_missed};
 ghost use Rattle.meaning.specs.ValueStates as Value;
 ghost use Rattle.meaning.specs.declared.Form.TheVariants.{Valued};
 ghost use Rattle.finding.specs.Places.{found};
-ghost use Rattle.reading.specs.Listed.{listed, ListHere, ValuesHere, listed_as, LiteralsHere};
+ghost use Rattle.reading.specs.Listed.{listed, ListHere, ValuesHere, listed_as};
 ghost use Rattle.valuing.specs.Valuing.{ValuedMarks};
-ghost use Rattle.steps.specs.AtHand.{AtHand, MarkedAs};
-ghost use Rattle.steps.specs.Steps.{met_as, bound_as, knows_as, lacks_as, missed_as};
+ghost use Rattle.steps.specs.AtHand.{MarkedAs};
+ghost use Rattle.steps.specs.Steps.{met_as, bound_as, lacks_as, missed_as};
 
 use super::looks::Looks;
 use super::request::Request;
 use finding::branches::sequence_of;
-use meaning::Form;
 use parsing::bytes::{two, wide};
 use reading::marks::{Marks, Test, holds};
 use reading::notes;

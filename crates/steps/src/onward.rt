@@ -1,24 +1,20 @@
 ghost use Rattle.std.specs.Prelude.{◌≡◌, ◌+◌, ◌<◌, get_or};
-ghost use Rattle.meaning.specs.Tests.{each_of};
 ghost use Rattle.finding.specs.Branches.{BranchHere};
-ghost use Rattle.reading.specs.Listed.{listed_as, LiteralsHere};
 ghost use Rattle.reading.specs.Planned.{items_of};
 ghost use Rattle.steps.specs.Held.{plan_in};
-ghost use Rattle.steps.specs.AtHand.{AtHand, MarkedAs};
+ghost use Rattle.steps.specs.AtHand.{MarkedAs};
 ghost use Rattle.steps.specs.Rests.{start};
-ghost use Rattle.steps.specs.Steps.{knows_as, Followed, Into, Chosen};
+ghost use Rattle.steps.specs.Steps.{Followed, Into, Chosen};
 
 use super::looks::Looks;
 use super::request::Request;
 use finding::branches::{empty, next_item, next_place, sequence_of};
-use meaning::Form;
 use parsing::bytes::wide;
 use parsing::limits;
 use parsing::shapes::Shape;
-use reading::marks::{Marks, Test, each_holds};
+use reading::marks::Marks;
 use reading::notes;
 use reading::notes::get;
-use valuing::states::each_known;
 
 // The first position of a plan with so many items.
 pub fn start_of(items: usize) -> usize

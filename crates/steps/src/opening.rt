@@ -4,7 +4,7 @@ ghost use Rattle.meaning.specs.Limits.{format, all_literals};
 ghost use Rattle.meaning.specs.ByCases.{open_fluents};
 ghost use Rattle.reading.specs.Listed.{listed, ListHere};
 ghost use Rattle.steps.specs.Held.{table_in};
-ghost use Rattle.steps.specs.AtHand.{AtHand, Marked};
+ghost use Rattle.steps.specs.AtHand.{Marked};
 ghost use Rattle.steps.specs.Flags.{flagged, flagged_at, HasBodies, places_of, OpenFlags, with_flag};
 ghost use Rattle.steps.specs.Opened.{Opened};
 ghost use Rattle.meaning.specs.declared.Form.TheVariants.{Flags};

@@ -3,7 +3,7 @@ ghost use Rattle.meaning.specs.Limits.{format};
 ghost use Rattle.meaning.specs.Lines.{knowledge_of, sensing, senses};
 ghost use Rattle.meaning.specs.Schemes.{too_wide};
 ghost use Rattle.steps.specs.Held.{table_in};
-ghost use Rattle.steps.specs.AtHand.{AtHand, Marked, MarkedAs};
+ghost use Rattle.steps.specs.AtHand.{Marked, MarkedAs};
 ghost use Rattle.steps.specs.Steps.{unknown_as, all_unknown, first_of};
 ghost use Rattle.meaning.specs.declared.Form.TheVariants.{Flags};
 
