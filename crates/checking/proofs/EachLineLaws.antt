@@ -21,9 +21,9 @@ use Rattle.meaning.specs.Requests.{Table}
 use Rattle.meaning.specs.Derivations.{Line, rule_1, rule_2, rule_3, rule_4, rule_5, rule_6, rule_7, rule_8, of_one, of_two, given_by, for_lists, follows, citations_taken, citations_of, a_rule, cited_by}
 use Rattle.meaning.proofs.TestLaws.{by-test, clash, both_left, both_right, fails_false, pick_true, pick_false, each_mono}
 use Rattle.std.specs.Prelude.{Some, None}
-use Rattle.parsing.specs.declared.rules.Rule.{Rule}
-use Rattle.parsing.specs.declared.rules.Rule.TheVariants.{Empty, Action, Sensing, Branching, Composition, Consequence, Look, Literal, SensingWhether, CompositionWhether, BranchingWhether}
-use Rattle.parsing.specs.Rules.{rule_number, rule_of}
+use Rattle.parsing.specs.declared.rule_kinds.Rule.{Rule}
+use Rattle.parsing.specs.declared.rule_kinds.Rule.TheVariants.{Empty, Action, Sensing, Branching, Composition, Consequence, Look, Literal, SensingWhether, CompositionWhether, BranchingWhether}
+use Rattle.parsing.specs.RuleKinds.{rule_number, rule_of}
 use Rattle.parsing.proofs.RuleNumbers.{rule_has, none_has}
 use Rattle.ruling.proofs.ReadingRuleLaws.{number_stands, each_at}
 use Rattle.derivation.specs.Derived.{LineHere}

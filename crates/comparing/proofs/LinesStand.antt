@@ -32,7 +32,7 @@ use Rattle.finding.proofs.PlanHere.{listed_length}
 use Rattle.finding.proofs.WrittenLaws.{two_is}
 use Rattle.derivation.proofs.DerivationLaws.{plan_ends}
 use Rattle.derivation.proofs.DerivedLaws.{derived_here}
-use Rattle.parsing.specs.Rules.{rule_of}
+use Rattle.parsing.specs.RuleKinds.{rule_of}
 use Rattle.comparing.specs.declared.spots.Concludes.TheVariants.{Literals, Fluent}
 use Rattle.comparing.specs.declared.spots.Spot.{Spot}
 use Rattle.comparing.specs.Stands.{after_list, ListStands, PlanStands, NumbersStand, ConclusionStands, Stands, spot_at, LinesStand, ClosingStands, Derived, SomeDerived}

@@ -19,8 +19,8 @@ use Rattle.reading.specs.Listed.{listed, ListHere}
 use Rattle.derivation.specs.DerivationRead.{plan_ends_slot}
 use Rattle.finding.specs.Branches.{sequence_place}
 use Rattle.std.specs.Prelude.{Option}
-use Rattle.parsing.specs.declared.rules.Rule.{Rule}
-use Rattle.parsing.specs.Rules.{rule_of, number_or_none}
+use Rattle.parsing.specs.declared.rule_kinds.Rule.{Rule}
+use Rattle.parsing.specs.RuleKinds.{rule_of, number_or_none}
 use Rattle.derivation.proofs.DerivationLaws.{concludes_as}
 use Rattle.comparing.specs.declared.spots.Concludes.{Concludes}
 use Rattle.comparing.specs.declared.spots.Concludes.TheVariants.{Literals, Fluent}

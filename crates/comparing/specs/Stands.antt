@@ -15,7 +15,7 @@ use Rattle.reading.specs.Planned.{bytes_of}
 use Rattle.finding.specs.PlansHeld.{own_items}
 use Rattle.derivation.specs.DerivationRead.{settled_derivation, plan_ends_slot, lines_end}
 use Rattle.derivation.specs.Derived.{LinesHere}
-use Rattle.parsing.specs.Rules.{rule_of}
+use Rattle.parsing.specs.RuleKinds.{rule_of}
 use Rattle.comparing.specs.declared.spots.Concludes.{Concludes}
 use Rattle.comparing.specs.declared.spots.Concludes.TheVariants.{Literals, Fluent}
 use Rattle.comparing.specs.declared.spots.Spot.{Spot}

@@ -9,7 +9,7 @@ use derivation::derived::{end_of, place_of};
 use finding::branches::sequence_of;
 use meaning::{Form, Layout};
 use parsing::bytes::{two, wide};
-use parsing::rules::Rule;
+use parsing::rule_kinds::Rule;
 
 // What a line concludes: the list of literals at a place, or a fluent.
 #[derive(Clone, Copy)]

@@ -28,9 +28,9 @@ use Rattle.parsing.specs.Read.{Numbered, Passed, numbered, over, stopped, passed
 use Rattle.reading.specs.Noted.{noting, outcome}
 use Rattle.reading.specs.Planned.{bytes_of, plan_noted, noting_met, outcome_met}
 use Rattle.derivation.specs.DerivationRead.{plan_end, places_noted, derivation_noted, citing, ending, ended_at, planned, lined, plan_ends_slot, lines_end}
-use Rattle.parsing.specs.declared.rules.Rule.{Rule}
-use Rattle.parsing.specs.declared.rules.Rule.TheVariants.{Look, Literal, SensingWhether, CompositionWhether, BranchingWhether}
-use Rattle.parsing.specs.Rules.{rule_number, rule_of, number_or_none}
+use Rattle.parsing.specs.declared.rule_kinds.Rule.{Rule}
+use Rattle.parsing.specs.declared.rule_kinds.Rule.TheVariants.{Look, Literal, SensingWhether, CompositionWhether, BranchingWhether}
+use Rattle.parsing.specs.RuleKinds.{rule_number, rule_of, number_or_none}
 use Rattle.parsing.proofs.RuleNumbers.{rule_has, none_has}
 use Rattle.parsing.proofs.ByteLaws.{was_read, was_stopped}
 use Rattle.parsing.proofs.ByteLaws.{read_value}

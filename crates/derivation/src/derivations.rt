@@ -3,7 +3,7 @@ ghost use Rattle.meaning.specs.Limits.{format};
 ghost use Rattle.meaning.specs.Reading.{repeated, two_bytes_at};
 ghost use Rattle.meaning.specs.Derivations.{concludes_fluent, conclusion_at, concluded_at, line_at, closing_at, read_derivation};
 ghost use Rattle.parsing.specs.Read.{numbered, over, passed};
-ghost use Rattle.parsing.specs.Rules.{number_or_none};
+ghost use Rattle.parsing.specs.RuleKinds.{number_or_none};
 ghost use Rattle.reading.specs.Noted.{noting, outcome};
 ghost use Rattle.derivation.specs.DerivationRead.{places_noted, derivation_noted, citing, ending, planned, lined, places_slots};
 
@@ -12,7 +12,7 @@ use parsing::bytes::{below_at, byte_at, count_at, two_bytes_at};
 use parsing::faults::{Fault, Refusal};
 use parsing::limits;
 use parsing::lists::{Kind, list_at};
-use parsing::rules::Rule;
+use parsing::rule_kinds::Rule;
 use parsing::shapes::OfFlags;
 use reader::{Reader, moved, new};
 use reading::notes::Notes;

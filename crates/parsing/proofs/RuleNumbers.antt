@@ -8,9 +8,9 @@ use borrow.Author.Tests.{eqb-true, ne_eqb}
 use Rattle.std.specs.Prelude.{Option, Some, None}
 use Rattle.meaning.specs.Tests.{pick}
 use Rattle.meaning.proofs.TestLaws.{by-test, clash, pick_true, pick_false}
-use Rattle.parsing.specs.declared.rules.Rule.{Rule}
-use Rattle.parsing.specs.declared.rules.Rule.TheVariants.{Empty, Action, Sensing, Branching, Composition, Consequence, Look, Literal, SensingWhether, CompositionWhether, BranchingWhether}
-use Rattle.parsing.specs.Rules.{rule_number, rule_of, number_or_none}
+use Rattle.parsing.specs.declared.rule_kinds.Rule.{Rule}
+use Rattle.parsing.specs.declared.rule_kinds.Rule.TheVariants.{Empty, Action, Sensing, Branching, Composition, Consequence, Look, Literal, SensingWhether, CompositionWhether, BranchingWhether}
+use Rattle.parsing.specs.RuleKinds.{rule_number, rule_of, number_or_none}
 
 -- NO RULE.
 pub no_rule : (k : ℕ) → (1 ≤ k → k ≤ 8 → ⊥) → (10 ≤ k → k ≤ 12 → ⊥) → None ≡ rule_of k

@@ -1,6 +1,6 @@
 pub mod Bits
 pub mod Faults
-pub mod Rules
+pub mod RuleKinds
 pub mod Read
 pub mod Entries
 pub mod Masks

@@ -4,7 +4,7 @@
 
 pub mod limits; // every limit and mark
 pub mod faults; // why and where an input is refused
-pub mod rules; // the rules of derivations
+pub mod rule_kinds; // the rules of derivations
 pub mod bits; // the bits of a number
 pub mod bytes; // bytes, numbers and counts
 pub mod lists; // lists of literals, of fluents and of values

@@ -7,7 +7,7 @@ ghost use Rattle.meaning.specs.Lines.{sensing};
 ghost use Rattle.meaning.specs.Derivations.{goals_of};
 ghost use Rattle.meaning.specs.Walk.{Verified};
 ghost use Rattle.meaning.specs.Schemes.{line_of, derivation_of, derivation_bytes, narrow_walk_of};
-ghost use Rattle.parsing.specs.Rules.{rule_number};
+ghost use Rattle.parsing.specs.RuleKinds.{rule_number};
 ghost use Rattle.reading.specs.Planned.{items_of};
 ghost use Rattle.steps.specs.Held.{table_in, plan_in, request_in};
 ghost use Rattle.steps.specs.AtHand.{Marked};
@@ -20,7 +20,7 @@ ghost use Rattle.meaning.specs.declared.Form.TheVariants.{Flags};
 
 use parsing::bytes::wide;
 use parsing::limits;
-use parsing::rules::Rule;
+use parsing::rule_kinds::Rule;
 use parsing::shapes::OfFlags;
 use reading::marks::{Marks, state_of};
 use reading::notes;

@@ -1,7 +1,7 @@
 -- Each rule is told by its number; between 8 and 10 and past 12 there is none.
 use native.Mathlib.Omega.{arith}
 use Rattle.parsing.proofs.RuleNumbers.{no_rule, number_says}
-use Rattle.parsing.proofs.rules.Rule.of.Goals as goal
+use Rattle.parsing.proofs.rule_kinds.Rule.of.Goals as goal
 
 pub returns-in-1 : goal.returns-in-1
 returns-in-1 c = search number_says

@@ -2,8 +2,8 @@
 use Rattle.std.specs.Prelude.{ℕ, Option, Some, None, eqb}
 use Rattle.meaning.specs.Tests.{pick}
 use Rattle.meaning.specs.Limits
-use Rattle.parsing.specs.declared.rules.Rule.{Rule}
-use Rattle.parsing.specs.declared.rules.Rule.TheVariants.{Empty, Action, Sensing, Branching, Composition, Consequence, Look, Literal, SensingWhether, CompositionWhether, BranchingWhether}
+use Rattle.parsing.specs.declared.rule_kinds.Rule.{Rule}
+use Rattle.parsing.specs.declared.rule_kinds.Rule.TheVariants.{Empty, Action, Sensing, Branching, Composition, Consequence, Look, Literal, SensingWhether, CompositionWhether, BranchingWhether}
 
 abbrev pub rule_number : Rule → ℕ
 rule_number Empty = Limits.empty_rule

@@ -1,5 +1,5 @@
 ghost use Rattle.std.specs.Prelude.{◌≡◌};
-ghost use Rattle.parsing.specs.Rules.{rule_number, rule_of};
+ghost use Rattle.parsing.specs.RuleKinds.{rule_number, rule_of};
 
 // The rules of a derivation (FORMAT 10.12 to 10.17, 17.21 to 17.25).
 #[derive(Clone, Copy, PartialEq, Eq)]
