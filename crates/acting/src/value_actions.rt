@@ -27,9 +27,7 @@ pub fn can_be_run(s: &[u8], t: &Notes, a: usize, marks: &Marks) -> bool
     let mut k = first_line(t, notes::EXECUTABILITY, a);
     while 0 < k {
         let p = line_place(t, notes::EXECUTABILITY, k);
-        let body = p + 1;
-        let known = each_known(s, marks, body);
-        if known {
+        if each_known(s, marks, p + 1) {
             return true;
         }
         k = next_line(t, notes::EXECUTABILITY, k);
@@ -61,33 +59,21 @@ pub fn state_after(s: &[u8], t: &Notes, a: usize, marks: &Marks) -> Marks
     while 0 < k {
         let p = line_place(t, notes::EFFECTS, k);
         k = next_line(t, notes::EFFECTS, k);
-        let one = p + 1;
-        let second = p + 2;
-        let l = two(s[one], s[second]);
+        let l = two(s[p + 1], s[p + 2]);
         let f = l / 256;
         let mark = mark_set(l);
         if next[f] == mark {
             continue;
         }
-        let body = p + 3;
         if next[f] == limits::UNKNOWN_MARK {
-            let known = each_known(s, marks, body);
-            if known {
+            if each_known(s, marks, p + 3) {
                 next[f] = mark;
             }
-            continue;
-        }
-        match look_at(s, marks, body) {
-            Look::Known => {
-                next[f] = mark;
-                continue;
-            }
-            Look::Possible => {
-                next[f] = limits::UNKNOWN_MARK;
-                continue;
-            }
-            Look::Never => {
-                continue;
+        } else {
+            match look_at(s, marks, p + 3) {
+                Look::Known => next[f] = mark,
+                Look::Possible => next[f] = limits::UNKNOWN_MARK,
+                Look::Never => {}
             }
         }
     }

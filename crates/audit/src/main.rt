@@ -2,109 +2,60 @@
 
 #![tactic(auto)]
 
-ghost use Rattle.programs.specs.Input.{Within};
-
 use glintstring::check_calls::{check, check_whether};
 use meaning::Answer;
-use programs::{
-    DERIVATION_ROOM, Input, NAME_ROOM, REQUEST_ROOM, fail, is_word, put_line, read_file, word_at,
-    word_count,
-};
+use programs::{DERIVATION_ROOM, Program, REQUEST_ROOM};
 use std::env::Env;
 use std::io;
-use std::io::Write;
 use std::rt::Files;
 
-// Reads the file that the program's argument i names.
-fn read_argument<R: Env + Files, E: Write>(rt: &R, err: &mut E, i: usize, buf: &mut [u8]) -> Input
-    ensures { Within 0 result buf.new }
+fn put_answer(rt: &impl Print, answer: Answer) -> io::Result<()> {
+    let Answer {
+        number,
+        input,
+        place,
+        ..
+    } = answer;
+    println!(rt; "{number} {input} {place}")
+}
+
+// What the call answers to the request and the derivation that these two arguments name.
+fn audit_files<R, F>(program: &Program<'_, R>, files: [usize; 2], call: F)
+where
+    R: Print + Env + Files,
+    F: FnOnce(&[u8], &[u8]) -> Answer + Drop,
+    requires { F.IsAlwaysCallable call }
 {
-    let mut name = [0u8; NAME_ROOM];
-    match word_at(rt, i, &mut name) {
-        Ok(n) => read_file(rt, err, b"", &name[..n], buf),
-        Err(error) => {
-            fail(err, b"audit: file name", error);
-            Input::Unreadable(error)
-        }
-    }
-}
-
-fn answer_to(whether: bool, request: &[u8], derivation: &[u8]) -> Answer {
-    if whether {
-        return check_whether(request, derivation);
-    }
-    check(request, derivation)
-}
-
-fn put_answer<R: Print, E: Write>(
-    rt: &R,
-    err: &mut E,
-    whether: bool,
-    request: &[u8],
-    derivation: &[u8],
-) {
-    let answer = answer_to(whether, request, derivation);
-    if let Err(error) = put_line(
-        &mut io::writer(rt),
-        answer.number as u64,
-        answer.input as u64,
-        answer.place as u64,
-    ) {
-        fail(err, b"audit: standard output", error);
-    }
-}
-
-// The derivation that argument i names, once the request is read.
-fn audit<R: Print + Env + Files, E: Write>(
-    rt: &R,
-    err: &mut E,
-    whether: bool,
-    request: &[u8],
-    i: usize,
-) {
-    // One byte more than a derivation may have: a longer one is refused whatever it holds.
-    let mut bytes = [0u8; DERIVATION_ROOM];
-    match read_argument(rt, err, i, &mut bytes) {
-        Input::Bytes(n) => put_answer(rt, err, whether, request, &bytes[..n]),
-        Input::Unreadable(_) => return,
-    }
-}
-
-// The request that argument i names, and the derivation that argument j names.
-fn audit_files<R: Print + Env + Files, E: Write>(
-    rt: &R,
-    err: &mut E,
-    whether: bool,
-    i: usize,
-    j: usize,
-) {
-    // One byte more than a request may have.
-    let mut bytes = [0u8; REQUEST_ROOM];
-    match read_argument(rt, err, i, &mut bytes) {
-        Input::Bytes(n) => audit(rt, err, whether, &bytes[..n], j),
-        Input::Unreadable(_) => return,
+    let [i, j] = files;
+    // One byte more than a request or a derivation may have: a longer one is refused whatever it holds.
+    let mut request = [0u8; REQUEST_ROOM];
+    let mut derivation = [0u8; DERIVATION_ROOM];
+    let Ok(n) = program.read_argument("", i, &mut request) else {
+        return;
+    };
+    let Ok(m) = program.read_argument("", j, &mut derivation) else {
+        return;
+    };
+    let answer = call(&request[..n], &derivation[..m]);
+    if let Err(error) = put_answer(program.rt, answer) {
+        program.fail("standard output", error);
     }
 }
 
 fn main(rt: HostRuntime) {
-    let mut err = rt.stderr();
-    let count = word_count(&rt);
+    let program = Program::new(&rt, "audit");
+    let count = program.word_count();
     // The option for derivations in the closing layout.
-    if is_word(&rt, 1, b"--whether") {
-        if count != 4 {
-            let _ = err.write_all(
-                b"audit: two file names are needed: audit REQUEST DERIVATION, or audit --whether REQUEST DERIVATION\n",
-            );
-            return;
-        }
-        audit_files(&rt, &mut err, true, 2, 3);
-        return;
-    }
-    if count != 3 {
-        let _ = err.write_all(
-            b"audit: two file names are needed, a request's and a derivation's\n",
+    let whether = program.is_word(1, b"--whether");
+    if whether && count == 4 {
+        audit_files(&program, [2, 3], check_whether);
+    } else if whether {
+        let _ = program.say(
+            "two file names are needed: audit REQUEST DERIVATION, or audit --whether REQUEST DERIVATION",
         );
-        return;
+    } else if count == 3 {
+        audit_files(&program, [1, 2], check);
+    } else {
+        let _ = program.say("two file names are needed, a request's and a derivation's");
     }
-    audit_files(&rt, &mut err, false, 1, 2);
 }

@@ -9,11 +9,11 @@ use mir.Val.{Fits}
 use Rattle.meaning.specs.declared.Layout.{Layout}
 use Rattle.meaning.specs.Limits.{format}
 use Rattle.meaning.specs.Requests.{Request}
-use Rattle.meaning.specs.Reading.{Got, fault, next}
+use Rattle.meaning.specs.Reading.{Got, next}
 use Rattle.meaning.specs.Derivations.{Derivation, check_lines, check_end, check_derivation}
-use Rattle.parsing.specs.declared.lists.Passed.{Passed}
-use Rattle.parsing.specs.declared.lists.Passed.TheVariants.{To, Fault as Stop}
-use Rattle.parsing.specs.Read.{passed}
+use Rattle.std.specs.Prelude.{Ok, Err}
+use Rattle.parsing.specs.declared.faults.Fault.{Fault}
+use Rattle.parsing.specs.Read.{Passed, over, stopped, passed}
 use Rattle.parsing.proofs.ListLaws.{passed_to, passed_stop}
 use Rattle.reading.specs.Noted.{noting, outcome}
 use Rattle.reading.proofs.SectionLaws.{noting_fault}
@@ -39,7 +39,7 @@ module _ (layout : Layout) (n m : ℕ) (d start places : List ℕ) (r : Passed) 
   unfolding rest
   begins x fluents actions = check_begins layout x d ∙ ap₂ {C = Got (Unit {0})} (λ (a b : ℕ). next (settled_derivation layout a b d) (λ y _. rest x y)) (sym fluents) (sym actions)
 
-  module _ (room : length start ≡ places_slots) (e : ℕ) (is : r ≡ To e) where
+  module _ (room : length start ≡ places_slots) (e : ℕ) (is : r ≡ Ok e) where
     some : SomeDerived layout n m d places e
     some = derived_whole n m d layout start places r read e is room
 
@@ -92,32 +92,32 @@ module _ (layout : Layout) (n m : ℕ) (d start places : List ℕ) (r : Passed) 
         pub settled_some : SomeDerivation layout d places count
         settled_some = record { derivation = some.derivation; stands = stands }
 
-        end_is : (x : Request) (a : Passed) → EndChecked layout x d places count a → a ≡ passed (check_end layout x (derivation_in layout n m d))
+        end_is : (x : Request) (a : Passed) → EndChecked layout x d places count a → over a ≡ passed (check_end layout x (derivation_in layout n m d))
         end_is x a checked = checked.holds some.derivation stands ∙ ap (λ (y : Derivation). passed (check_end layout x y)) (sym derivation_is)
 
   -- For a request at hand.
   module _ (s t : List ℕ) (here : AtHand Flags s t) (fluents : n ≡ get_or s 0 0) (actions : m ≡ get_or s 1 0) where
-    pub settled_fault : (k q : ℕ) → r ≡ Stop k q → Stop k q ≡ passed (check_derivation format layout (request_in Flags s t) d)
+    pub settled_fault : (why : Fault) → r ≡ Err why → over (Err why) ≡ passed (check_derivation format layout (request_in Flags s t) d)
     unfolding passed next request_in
-    settled_fault k q is =
-        let met : settled_derivation layout n m d ≡ fault k q = noting_fault derivation_noted (settled_derivation layout n m d) r start places read k q is in
+    settled_fault why is =
+        let met : settled_derivation layout n m d ≡ stopped why = noting_fault derivation_noted (settled_derivation layout n m d) r start places read why is in
         sym (ap passed (begins (request_in Flags s t) (fluents_are s t here n fluents) (actions_are s t here m actions) ∙ ap (λ (g : Got Derivation). next g (λ y _. rest (request_in Flags s t) y)) met))
 
-    module _ (room : length start ≡ places_slots) (e : ℕ) (is : r ≡ To e) (lines : Passed) (in_order : lines ≡ passed (check_lines format layout (table_in Flags s) (lines_in layout n m d) 0 (lines_in layout n m d))) where
+    module _ (room : length start ≡ places_slots) (e : ℕ) (is : r ≡ Ok e) (lines : Passed) (in_order : over lines ≡ passed (check_lines format layout (table_in Flags s) (lines_in layout n m d) 0 (lines_in layout n m d))) where
       whole : check_derivation format layout (request_in Flags s t) d
           ≡ next (check_lines format layout (table_in Flags s) (lines_in layout n m d) 0 (lines_in layout n m d)) (λ _ _. check_end layout (request_in Flags s t) (derivation_in layout n m d))
       unfolding rest lines_in request_in
       whole = whole_is room e is (request_in Flags s t) (fluents_are s t here n fluents) (actions_are s t here m actions)
 
-      pub lines_fault : (k q : ℕ) → lines ≡ Stop k q → Stop k q ≡ passed (check_derivation format layout (request_in Flags s t) d)
+      pub lines_fault : (why : Fault) → lines ≡ Err why → over (Err why) ≡ passed (check_derivation format layout (request_in Flags s t) d)
       unfolding passed next
-      lines_fault k q stopped =
-          let met = passed_stop (check_lines format layout (table_in Flags s) (lines_in layout n m d) 0 (lines_in layout n m d)) k q (sym in_order ∙ stopped) in
+      lines_fault why stops =
+          let met = passed_stop (check_lines format layout (table_in Flags s) (lines_in layout n m d) 0 (lines_in layout n m d)) why (sym in_order ∙ ap over stops) in
           sym (ap passed (whole ∙ ap (λ (g : Got (Unit {0})). next g (λ _ _. check_end layout (request_in Flags s t) (derivation_in layout n m d))) met))
 
-      pub lines_checked : (q : ℕ) → lines ≡ To q → (count : ℕ) → count ≡ get_or d 0 0 * 256 + get_or d 1 0 → ((i : ℕ) → Fits w8 (get_or d i 0)) → n ≤ format.fluents → m ≤ format.actions → (a : Passed) → EndChecked layout (request_in Flags s t) d places count a
-          → a ≡ passed (check_derivation format layout (request_in Flags s t) d)
+      pub lines_checked : (q : ℕ) → lines ≡ Ok q → (count : ℕ) → count ≡ get_or d 0 0 * 256 + get_or d 1 0 → ((i : ℕ) → Fits w8 (get_or d i 0)) → n ≤ format.fluents → m ≤ format.actions → (a : Passed) → EndChecked layout (request_in Flags s t) d places count a
+          → over a ≡ passed (check_derivation format layout (request_in Flags s t) d)
       unfolding next
       lines_checked q through count counted bytes few less a checked =
-          let all = passed_to (check_lines format layout (table_in Flags s) (lines_in layout n m d) 0 (lines_in layout n m d)) q (sym in_order ∙ through) in
+          let all = passed_to (check_lines format layout (table_in Flags s) (lines_in layout n m d) 0 (lines_in layout n m d)) q (sym in_order ∙ ap over through) in
           end_is room e is count counted bytes few less (request_in Flags s t) a checked ∙ sym (ap passed (whole ∙ rw all.1 refl))

@@ -8,7 +8,8 @@ use mathlib.Core.List.{List, [], ◌∷◌, map}
 use lib.ListN.{length, length-map, get_or}
 use mir.Syntax.{w64}
 use mir.Val.{Fits}
-use borrow.Author.Tests.{eq-eqb, ne_eqb}
+use lib.Dec.{ltb}
+use borrow.Author.Tests.{eq-eqb, ne_eqb, le-ltb}
 use Rattle.meaning.specs.declared.Layout.{Layout}
 use Rattle.meaning.specs.declared.Layout.TheVariants.{Plain, Closing}
 use Rattle.meaning.specs.Tests.{pick}
@@ -17,9 +18,10 @@ use Rattle.meaning.specs.Requests.{Request}
 use Rattle.meaning.specs.Reading.{Got, got, fault}
 use Rattle.meaning.specs.Derivations.{Conclusion, knows_whether, Line, Derivation, asks_for, goals_of, check_last, all_asked, names, check_entries, check_closing, check_end}
 use Rattle.meaning.proofs.TestLaws.{pick_true, pick_false}
-use Rattle.parsing.specs.declared.lists.Passed.{Passed}
-use Rattle.parsing.specs.declared.lists.Passed.TheVariants.{To, Fault as Stop}
-use Rattle.parsing.specs.Read.{passed}
+use Rattle.std.specs.Prelude.{Option, Some, None, Ok, Err}
+use Rattle.parsing.specs.declared.faults.Fault.{Fault}
+use Rattle.parsing.specs.declared.faults.Refusal.TheVariants.{NotTheQuestion, ClosingNotRight}
+use Rattle.parsing.specs.Read.{Passed, passed}
 use Rattle.reading.specs.Listed.{bytes_from, listed, ListHere}
 use Rattle.reading.proofs.MarkLaws.{bytes_next, bytes_done}
 use Rattle.reading.specs.Noted.{goals_slot}
@@ -31,8 +33,6 @@ use Rattle.steps.specs.AtHand.{AtHand}
 use Rattle.comparing.specs.declared.spots.Spot.{Spot}
 use Rattle.comparing.specs.Stands.{NumbersStand, Stands, spot_at, LinesStand, ClosingStands}
 use Rattle.comparing.specs.RuleAnswers.{SomeStands, SomeLines, Ruled}
-use Rattle.checking.specs.declared.question.Asked.{Asked}
-use Rattle.checking.specs.declared.question.Asked.TheVariants.{Goals, Fluent}
 use Rattle.checking.specs.Checked.{no_line}
 use Rattle.checking.specs.Asked.{conclusion_asked, Names, EntriesChecked, DerivationStands, SomeDerivation, ClosingChecked, EndChecked}
 use Rattle.checking.proofs.EachLineLaws.{numbers_room}
@@ -59,7 +59,7 @@ module _ (layout : Layout) (d places : List ℕ) (count number : ℕ) (below : n
   pub line_some : SomeLines layout d places count → SomeStands d l
   line_some some = record { line = get_or some.lines number no_line; stands = line_stands some.lines some.stand some.size }
 
-module _ (r : Request) (d places : List ℕ) (count at : ℕ) (asked : Asked) (number : ℕ) (read : number ≡ get_or d at 0 * 256 + get_or d (at + 1) 0) where
+module _ (r : Request) (d places : List ℕ) (count at : ℕ) (asked : Option ℕ) (number : ℕ) (read : number ≡ get_or d at 0 * 256 + get_or d (at + 1) 0) where
   pub named : number < count → (l : Spot) → l ≡ spot_at Closing d (get_or places number 0) (get_or places (plan_ends_slot + number) 0) → (answer : Bool) → Ruled d l (asks_for r (conclusion_asked r asked)) answer
       → Names r d places count at asked answer
   named below l is answer ruled =
@@ -70,11 +70,12 @@ module _ (r : Request) (d places : List ℕ) (count at : ℕ) (asked : Asked) (n
             ∙ ap (λ (k : ℕ). names r ls k (conclusion_asked r asked)) read;
       }
 
-  pub not_named : count ≤ number → Names r d places count at asked false
+  pub not_named : count ≤ number → Names r d places count at asked (ltb number count)
   not_named past =
       record {
         holds = λ ls stand size.
-            sym (names_past r (conclusion_asked r asked) ls number (omega (arith, past, size)))
+            le-ltb number count past
+            ∙ sym (names_past r (conclusion_asked r asked) ls number (omega (arith, past, size)))
             ∙ ap (λ (k : ℕ). names r ls k (conclusion_asked r asked)) read;
       }
 
@@ -89,7 +90,7 @@ module _ (r : Request) (ls : List Line) (p : ℕ) (Y : Conclusion) (Ys : List Co
   entry_wrong e = pick_false _ _ _ (sym e)
 
 -- THE ENTRIES that are left: the fluents after i, and the numbers from `at` on.
-pub record Left (s t d : List ℕ) (ls : List Line) (end i at : ℕ) (whole : Passed) : Type 0 where
+pub record Left (s t d : List ℕ) (ls : List Line) (end i at : ℕ) (whole : Got (Unit {0})) : Type 0 where
   pub numbers : List ℕ
   pub stand : NumbersStand d at numbers
   pub size : length numbers ≡ end - i
@@ -126,7 +127,7 @@ module _ (s t d places : List ℕ) (count whether first : ℕ) where
       }
 
   module _ (end i at : ℕ) (so_far : SoFar s t d places count whether first end i at) where
-    pub entries_done : end ≤ i → EntriesChecked s t d places count whether first (To 0)
+    pub entries_done : end ≤ i → EntriesChecked s t d places count whether first (Ok 0)
     unfolding check_entries passed
     entries_done over =
         record {
@@ -149,7 +150,7 @@ module _ (s t d places : List ℕ) (count whether first : ℕ) where
       number_fits long = let room = so_far.room in let most = long.fits in record { fits = omega (arith, room, more, most) }
 
       -- The next fluent, and the next number.
-      record Next (ls : List Line) (whole : Passed) : Type 0 where
+      record Next (ls : List Line) (whole : Got (Unit {0})) : Type 0 where
         number : ℕ
         numbers : List ℕ
         read : get_or d at 0 * 256 + get_or d (at + 1) 0 ≡ number
@@ -157,7 +158,7 @@ module _ (s t d places : List ℕ) (count whether first : ℕ) where
         size : length numbers ≡ end - (i + 1)
         same : whole ≡ passed (check_entries (request_in Flags s t) ls at (knows_whether (get_or s (i + 1) 0) ∷ map knows_whether (bytes_from s (i + 1 + 1) (end - (i + 1)))) (number ∷ numbers))
 
-      entry_next : (ls : List Line) (whole : Passed) → Left s t d ls end i at whole → Next ls whole
+      entry_next : (ls : List Line) (whole : Got (Unit {0})) → Left s t d ls end i at whole → Next ls whole
       unfolding NumbersStand
       entry_next ls whole left = split left.numbers left.stand left.size (left.same ∙ ap (λ (xs : List ℕ). passed (check_entries (request_in Flags s t) ls at (map knows_whether xs) left.numbers)) (bytes_next s end i more))
         where
@@ -166,8 +167,8 @@ module _ (s t d places : List ℕ) (count whether first : ℕ) where
           split [] stand size same = absurd (omega (arith, size, more))
           split (k ∷ ks) stand size same = record { number = k; numbers = ks; read = stand.1; stand = stand.2; size = omega (arith, size, more); same = same }
 
-      module _ (good : Bool) (asked : Names (request_in Flags s t) d places count at (Fluent (get_or s (i + 1) 0)) good) where
-        good_is : (ls : List Line) (whole : Passed) (now : Next ls whole) → LinesStand Closing d places ls → length ls ≡ count → good ≡ names (request_in Flags s t) ls now.number (knows_whether (get_or s (i + 1) 0))
+      module _ (good : Bool) (asked : Names (request_in Flags s t) d places count at (Some (get_or s (i + 1) 0)) good) where
+        good_is : (ls : List Line) (whole : Got (Unit {0})) (now : Next ls whole) → LinesStand Closing d places ls → length ls ≡ count → good ≡ names (request_in Flags s t) ls now.number (knows_whether (get_or s (i + 1) 0))
         unfolding conclusion_asked
         good_is ls whole now stand size = asked.holds ls stand size ∙ ap (λ (k : ℕ). names (request_in Flags s t) ls k (knows_whether (get_or s (i + 1) 0))) now.read
 
@@ -187,14 +188,16 @@ module _ (s t d places : List ℕ) (count whether first : ℕ) where
                   };
             }
 
-        pub entries_stop : good ≡ false → EntriesChecked s t d places count whether first (Stop 36 at)
+        pub entries_stop : good ≡ false → (why : Fault) → why ≡ record { refusal = ClosingNotRight; place = at } → EntriesChecked s t d places count whether first (Err why)
         unfolding passed
-        entries_stop e =
+        entries_stop e why is-why =
+            rw is-why (
             record {
               holds = λ ls ks stand size numbers long.
                   let now = entry_next ls _ (so_far.holds ls ks stand size numbers long) in
                   sym (now.same ∙ ap passed (entry_wrong (request_in Flags s t) ls at _ _ now.number now.numbers (sym e ∙ good_is ls _ now stand size)));
             }
+            )
 
 -- THE LAST LINE.
 last_line : (r : Request) (other : Line) (ls : List Line) (j : ℕ) → j + 1 ≡ length ls
@@ -219,7 +222,7 @@ module _ (layout : Layout) (d places : List ℕ) (count : ℕ) where
       pub last_some : SomeDerivation layout d places count → SomeStands d l
       last_some given = line_some Plain d places count (count - 1) (omega (arith, least)) l is (plain_lines given)
 
-      module _ (r : Request) (asked : Bool) (tested : Ruled d l (asks_for r (conclusion_asked r Goals)) asked) where
+      module _ (r : Request) (asked : Bool) (tested : Ruled d l (asks_for r (conclusion_asked r None)) asked) where
         last_is : (x : Derivation) → DerivationStands layout d places count x → check_end layout r x ≡ pick asked (λ _. got tt 0) (λ _. fault 35 l.line)
         unfolding check_end conclusion_asked
         last_is x stands =
@@ -229,13 +232,13 @@ module _ (layout : Layout) (d places : List ℕ) (count : ℕ) where
             let own : asked ≡ asks_for r (goals_of r) (get_or x.lines (count - 1) no_line) = tested.holds (get_or x.lines (count - 1) no_line) there in
             rw plain (last_line r no_line x.lines (count - 1) (omega (arith, least, size)) ∙ rw (sym own, there.place) refl)
 
-        pub last_asks : asked ≡ true → EndChecked layout r d places count (To 0)
+        pub last_asks : asked ≡ true → EndChecked layout r d places count (Ok 0)
         unfolding passed
         last_asks e = record { holds = λ x stands. sym (ap passed (last_is x stands ∙ pick_true _ _ _ e)) }
 
-        pub last_other : asked ≡ false → EndChecked layout r d places count (Stop 35 l.line)
+        pub last_other : asked ≡ false → (why : Fault) → why ≡ record { refusal = NotTheQuestion; place = l.line } → EndChecked layout r d places count (Err why)
         unfolding passed
-        last_other e = record { holds = λ x stands. sym (ap passed (last_is x stands ∙ pick_false _ _ _ e)) }
+        last_other e why is-why = rw is-why (record { holds = λ x stands. sym (ap passed (last_is x stands ∙ pick_false _ _ _ e)) })
 
   module _ (closing : layout ≡ Closing) where
     pub closing_stands : SomeDerivation layout d places count → SomeDerivation Closing d places count
@@ -301,9 +304,10 @@ module _ (d places : List ℕ) (count closing : ℕ) (at-closing : closing ≡ g
         ap length asked_are ∙ omega (arith, fluents)
 
     module _ (size : ℕ) (read : size ≡ get_or d closing 0) where
-      pub closing_not_due : (size ≡ 1 + number → ⊥) → ClosingChecked (request_in Flags s t) d places count (Stop 36 closing)
+      pub closing_not_due : (size ≡ 1 + number → ⊥) → (why : Fault) → why ≡ record { refusal = ClosingNotRight; place = closing } → ClosingChecked (request_in Flags s t) d places count (Err why)
       unfolding check_closing passed
-      closing_not_due other =
+      closing_not_due other why is-why =
+          rw is-why (
           record {
             holds = λ x stands.
                 let long = asked_long in
@@ -311,6 +315,7 @@ module _ (d places : List ℕ) (count closing : ℕ) (at-closing : closing ≡ g
                 let place : closing ≡ x.closing_place = at-closing ∙ stands.closes in
                 sym (ap passed (pick_false _ _ _ (ne_eqb (length x.closing) (length (all_asked (request_in Flags s t))) (λ e. other (omega (arith, e, long, counted)))) ∙ ap (fault 36) (sym place)));
           }
+          )
 
       module _ (due : size ≡ 1 + number) where
         -- The number for the goals, and those for the fluents.
@@ -354,19 +359,21 @@ module _ (d places : List ℕ) (count closing : ℕ) (at-closing : closing ≡ g
                   same = whole ∙ ap (check_entries (request_in Flags s t) x.lines (closing + 1) (goals_of (request_in Flags s t) ∷ map knows_whether (listed s whether))) e;
                 }
 
-        module _ (good : Bool) (asked : Names (request_in Flags s t) d places count (closing + 1) Goals good) where
+        module _ (good : Bool) (asked : Names (request_in Flags s t) d places count (closing + 1) None good) where
           good_names : (x : Derivation) → DerivationStands Closing d places count x → (c : Closed x) → good ≡ names (request_in Flags s t) x.lines c.first (goals_of (request_in Flags s t))
           unfolding conclusion_asked
           good_names x stands c = asked.holds x.lines stands.stand stands.size ∙ ap (λ (k : ℕ). names (request_in Flags s t) x.lines k (goals_of (request_in Flags s t))) c.told
 
-          pub goals_wrong : good ≡ false → ClosingChecked (request_in Flags s t) d places count (Stop 36 (closing + 1))
+          pub goals_wrong : good ≡ false → (why : Fault) → why ≡ record { refusal = ClosingNotRight; place = closing + 1 } → ClosingChecked (request_in Flags s t) d places count (Err why)
           unfolding passed
-          goals_wrong e =
+          goals_wrong e why is-why =
+              rw is-why (
               record {
                 holds = λ x stands.
                     let c = closed x stands in
                     sym (ap passed (c.same ∙ entry_wrong (request_in Flags s t) x.lines (closing + 1) _ _ c.first c.numbers (sym e ∙ good_names x stands c)));
               }
+              )
 
           pub goals_right : good ≡ true → (answer : Passed) → EntriesChecked s t d places count whether (closing + 3) answer → ClosingChecked (request_in Flags s t) d places count answer
           goals_right e answer rest =

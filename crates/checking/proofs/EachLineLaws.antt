@@ -5,11 +5,12 @@ use native.Mathlib.Omega.{arith}
 use mathlib.Core.Path.{◌≡◌, refl, sym, ◌∙◌, ap, ap₂, subst}
 use mathlib.Core.Bool.{Bool, true, false}
 use mathlib.Core.List.{List, [], ◌∷◌, map}
+use Rattle.std.specs.List.{list_any}
 use lib.ListN.{length, get_or}
 use lib.Dec.{leb, ltb, eqb}
 use mir.Syntax.{w64}
 use mir.Val.{Fits}
-use borrow.Author.Tests.{ltb-true, eqb-true, lt-ltb, le-ltb, le-leb, lt-leb, eq-eqb, ne_eqb}
+use borrow.Author.Tests.{ltb-true, leb-true, eqb-true, lt-ltb, le-ltb, eq-eqb, ne_eqb}
 use Rattle.meaning.specs.declared.Form.TheVariants.{Flags}
 use Rattle.meaning.specs.declared.Layout.{Layout}
 use Rattle.meaning.specs.declared.Layout.TheVariants.{Plain, Closing}
@@ -19,12 +20,18 @@ use Rattle.meaning.specs.Literals.{among}
 use Rattle.meaning.specs.Requests.{Table}
 use Rattle.meaning.specs.Derivations.{Line, rule_1, rule_2, rule_3, rule_4, rule_5, rule_6, rule_7, rule_8, of_one, of_two, given_by, for_lists, follows, citations_taken, citations_of, a_rule, cited_by}
 use Rattle.meaning.proofs.TestLaws.{by-test, clash, both_left, both_right, fails_false, pick_true, pick_false, each_mono}
+use Rattle.std.specs.Prelude.{Some, None}
+use Rattle.parsing.specs.declared.rule_kinds.Rule.{Rule}
+use Rattle.parsing.specs.declared.rule_kinds.Rule.TheVariants.{Empty, Action, Sensing, Branching, Composition, Consequence, Look, Literal, SensingWhether, CompositionWhether, BranchingWhether}
+use Rattle.parsing.specs.RuleKinds.{rule_number, rule_of}
+use Rattle.parsing.proofs.RuleNumbers.{rule_has, none_has}
+use Rattle.ruling.proofs.ReadingRuleLaws.{number_stands, each_at}
 use Rattle.derivation.specs.Derived.{LineHere}
 use Rattle.derivation.specs.DerivationRead.{plan_ends_slot}
 use Rattle.steps.specs.Small.{Small}
 use Rattle.steps.proofs.SmallActions.{plan_small}
 use Rattle.comparing.specs.declared.spots.Spot.{Spot}
-use Rattle.comparing.specs.Stands.{after_list, NumbersStand, Stands}
+use Rattle.comparing.specs.Stands.{after_list, number_cited, NumbersStand, Stands}
 use Rattle.comparing.specs.RuleAnswers.{SomeLine, SomeRead, SomeLines, Ruled, RuledBy, RuledByTwo, RuledByAll, ReadBy, CitedBelow}
 use Rattle.comparing.proofs.SpotLaws.{spot_line}
 use Rattle.comparing.proofs.LinesStand.{line_parts, line_number}
@@ -36,47 +43,50 @@ unfolding fails
 no_fail true e = refl
 no_fail false e = clash e refl
 
-pub no_rule : (layout : Layout) (rule : ℕ) → rule < 1 → false ≡ a_rule layout rule
+module _ (k : ℕ) (none : rule_of k ≡ None) where
+  none_early : 1 ≤ k → k ≤ 8 → ⊥
+  none_early least most =
+      let no-1 : k ≡ 1 → ⊥ = none_has k none Empty in
+      let no-2 : k ≡ 2 → ⊥ = none_has k none Action in
+      let no-3 : k ≡ 3 → ⊥ = none_has k none Sensing in
+      let no-4 : k ≡ 4 → ⊥ = none_has k none Branching in
+      let no-5 : k ≡ 5 → ⊥ = none_has k none Composition in
+      let no-6 : k ≡ 6 → ⊥ = none_has k none Consequence in
+      let no-7 : k ≡ 7 → ⊥ = none_has k none Look in
+      let no-8 : k ≡ 8 → ⊥ = none_has k none Literal in
+      omega (arith, least, most, no-1, no-2, no-3, no-4, no-5, no-6, no-7, no-8)
+
+  none_late : 10 ≤ k → k ≤ 12 → ⊥
+  none_late least most =
+      let no-10 : k ≡ 10 → ⊥ = none_has k none SensingWhether in
+      let no-11 : k ≡ 11 → ⊥ = none_has k none CompositionWhether in
+      let no-12 : k ≡ 12 → ⊥ = none_has k none BranchingWhether in
+      omega (arith, least, most, no-10, no-11, no-12)
+
+  outside : (from to : ℕ) → (from ≤ k → k ≤ to → ⊥) → both (leb from k) (leb k to) ≡ false
+  outside from to out = by-test (both (leb from k) (leb k to)) (λ t. absurd (out (leb-true from k (both_left _ _ t)) (leb-true k to (both_right _ _ t)))) (λ f. f)
+
+  no_a_rule : (layout : Layout) → a_rule layout k ≡ false
+  unfolding a_rule either
+  no_a_rule Plain = outside 1 6 (λ least most. none_early least (omega (arith, most)))
+  no_a_rule Closing = rw (outside 1 8 none_early) (outside 10 12 none_late)
+
+pub closing_rule : (layout : Layout) (rule : Rule) → layout ≡ Closing → true ≡ a_rule layout (rule_number rule)
 unfolding a_rule both either
-no_rule Plain rule h = rw (lt-leb 1 rule h) refl
-no_rule Closing rule h = rw (lt-leb 1 rule h, lt-leb 10 rule (omega (arith, h))) refl
-
-module _ (layout : Layout) (rule : ℕ) (least : 1 ≤ rule) where
-  pub plain_rule : layout ≡ Plain → leb rule 6 ≡ a_rule layout rule
-  unfolding a_rule both
-  plain_rule plain = rw (plain, le-leb 1 rule least) refl
-
-  module _ (closing : layout ≡ Closing) where
-    pub early_rule : rule ≤ 8 → true ≡ a_rule layout rule
-    unfolding a_rule both either
-    early_rule h = rw (closing, le-leb 1 rule least, le-leb rule 8 h) refl
-
-    module _ (above : 8 < rule) where
-      pub between_rules : rule < 10 → false ≡ a_rule layout rule
-      unfolding a_rule both either
-      between_rules h = rw (closing, le-leb 1 rule least, lt-leb rule 8 above, lt-leb 10 rule h) refl
-
-      pub late_rule : 10 ≤ rule → leb rule 12 ≡ a_rule layout rule
-      unfolding a_rule both either
-      late_rule h = rw (closing, le-leb 1 rule least, lt-leb rule 8 above, le-leb 10 rule h) refl
-
--- The rule that asks the same of lists.
-module _ (rule : ℕ) where
-  pub lists_sensing : rule ≡ 10 → 3 ≡ for_lists rule
-  unfolding for_lists pick
-  lists_sensing e = rw e refl
-
-  pub lists_composition : rule ≡ 11 → 5 ≡ for_lists rule
-  unfolding for_lists pick
-  lists_composition e = rw e refl
-
-  pub lists_branching : rule ≡ 12 → 4 ≡ for_lists rule
-  unfolding for_lists pick
-  lists_branching e = rw e refl
-
-  pub lists_same : (rule ≡ 10 → ⊥) → (rule ≡ 11 → ⊥) → (rule ≡ 12 → ⊥) → rule ≡ for_lists rule
-  unfolding for_lists
-  lists_same not-10 not-11 not-12 = sym (pick_false _ _ _ (ne_eqb _ _ not-10) ∙ pick_false _ _ _ (ne_eqb _ _ not-11) ∙ pick_false _ _ _ (ne_eqb _ _ not-12))
+closing_rule layout rule is = rw is (each rule)
+  where
+    each : (r : Rule) → true ≡ a_rule Closing (rule_number r)
+    each Empty = refl
+    each Action = refl
+    each Sensing = refl
+    each Branching = refl
+    each Composition = refl
+    each Consequence = refl
+    each Look = refl
+    each Literal = refl
+    each SensingWhether = refl
+    each CompositionWhether = refl
+    each BranchingWhether = refl
 
 -- HOW MANY a rule takes.
 alone : (count k : ℕ) → eqb count k ≡ among count (k ∷ [])
@@ -87,80 +97,111 @@ abbrev Counts : List ℕ
 Counts = 1 ∷ 2 ∷ 4 ∷ 8 ∷ 16 ∷ 32 ∷ 64 ∷ []
 
 module _ (count : ℕ) where
-  pub reads_one : count ≡ 1 → true ≡ among count Counts
+  any_among : (xs : List ℕ) → list_any (λ y. eqb y count) xs ≡ among count xs
   unfolding among some_of either
-  reads_one e = rw e refl
+  any_among [] = refl
+  any_among (x ∷ xs) =
+      by-test (eqb x count)
+      (λ t. let same = eqb-true x count t in rw (t, eq-eqb count x (sym same)) refl)
+      (λ f. rw (f, ne_eqb count x (λ e. clash (eq-eqb x count (sym e)) f)) (any_among xs))
 
-  pub reads_two : count ≡ 2 → true ≡ among count Counts
-  unfolding among some_of either
-  reads_two e = rw e refl
+  pub reads_told : (r : Bool) → r ≡ list_any (λ y. eqb y count) Counts → r ≡ among count Counts
+  reads_told r is = is ∙ any_among Counts
 
-  pub reads_four : count ≡ 4 → true ≡ among count Counts
-  unfolding among some_of either
-  reads_four e = rw e refl
+-- The rules that take one citation.
+abbrev pub takes_one : Rule → Bool
+takes_one Empty = false
+takes_one Action = false
+takes_one Sensing = false
+takes_one Branching = true
+takes_one Composition = false
+takes_one Consequence = true
+takes_one Look = false
+takes_one Literal = true
+takes_one SensingWhether = true
+takes_one CompositionWhether = true
+takes_one BranchingWhether = true
 
-  pub reads_eight : count ≡ 8 → true ≡ among count Counts
-  unfolding among some_of either
-  reads_eight e = rw e refl
+-- Those that take none.
+abbrev pub takes_none : Rule → Bool
+takes_none Empty = true
+takes_none Action = true
+takes_none Sensing = false
+takes_none Branching = false
+takes_none Composition = false
+takes_none Consequence = false
+takes_none Look = true
+takes_none Literal = false
+takes_none SensingWhether = false
+takes_none CompositionWhether = false
+takes_none BranchingWhether = false
 
-  pub reads_sixteen : count ≡ 16 → true ≡ among count Counts
-  unfolding among some_of either
-  reads_sixteen e = rw e refl
+-- Those that `given_by` has last.
+abbrev pub comes_last : Rule → Bool
+comes_last Empty = false
+comes_last Action = false
+comes_last Sensing = false
+comes_last Branching = false
+comes_last Composition = false
+comes_last Consequence = false
+comes_last Look = false
+comes_last Literal = true
+comes_last SensingWhether = true
+comes_last CompositionWhether = true
+comes_last BranchingWhether = true
 
-  pub reads_thirty_two : count ≡ 32 → true ≡ among count Counts
-  unfolding among some_of either
-  reads_thirty_two e = rw e refl
+one_taken : (rule : Rule) → takes_one rule ≡ true → citations_taken (rule_number rule) ≡ 1 ∷ []
+unfolding citations_taken pick
+one_taken Empty e = clash e refl
+one_taken Action e = clash e refl
+one_taken Sensing e = clash e refl
+one_taken Branching e = refl
+one_taken Composition e = clash e refl
+one_taken Consequence e = refl
+one_taken Look e = clash e refl
+one_taken Literal e = refl
+one_taken SensingWhether e = refl
+one_taken CompositionWhether e = refl
+one_taken BranchingWhether e = refl
 
-  pub reads_last : (count ≡ 1 → ⊥) → (count ≡ 2 → ⊥) → (count ≡ 4 → ⊥) → (count ≡ 8 → ⊥) → (count ≡ 16 → ⊥) → (count ≡ 32 → ⊥) → eqb count 64 ≡ among count Counts
-  unfolding among some_of either
-  reads_last a b c d e f =
-      rw (ne_eqb count 1 a, ne_eqb count 2 b, ne_eqb count 4 c, ne_eqb count 8 d, ne_eqb count 16 e, ne_eqb count 32 f) (alone count 64)
+none_taken : (rule : Rule) → takes_none rule ≡ true → citations_taken (rule_number rule) ≡ 0 ∷ []
+unfolding citations_taken pick
+none_taken Empty e = refl
+none_taken Action e = refl
+none_taken Sensing e = clash e refl
+none_taken Branching e = clash e refl
+none_taken Composition e = clash e refl
+none_taken Consequence e = clash e refl
+none_taken Look e = refl
+none_taken Literal e = clash e refl
+none_taken SensingWhether e = clash e refl
+none_taken CompositionWhether e = clash e refl
+none_taken BranchingWhether e = clash e refl
 
-module _ (rule : ℕ) where
-  takes_two : rule ≡ 5 → citations_taken rule ≡ 2 ∷ []
+module _ (rule : Rule) where
+  two_taken : rule ≡ Composition → citations_taken (rule_number rule) ≡ 2 ∷ []
   unfolding citations_taken pick
-  takes_two e = rw e refl
-
-  takes_other : (rule ≡ 1 → ⊥) → (rule ≡ 2 → ⊥) → (rule ≡ 3 → ⊥) → (rule ≡ 5 → ⊥) → (rule ≡ 7 → ⊥) → citations_taken rule ≡ 1 ∷ []
-  unfolding citations_taken
-  takes_other not_1 not_2 not_3 not-5 not-7 =
-      pick_false _ _ _ (ne_eqb _ _ not_1) ∙ pick_false _ _ _ (ne_eqb _ _ not_2) ∙ pick_false _ _ _ (ne_eqb _ _ not_3) ∙ pick_false _ _ _ (ne_eqb _ _ not-5) ∙ pick_false _ _ _ (ne_eqb _ _ not-7)
+  two_taken e = rw e refl
 
   module _ (count : ℕ) where
-    pub takes_empty : rule ≡ 1 → eqb count 0 ≡ among count (citations_taken rule)
-    unfolding citations_taken pick
-    takes_empty e = rw e (alone count 0)
+    takes_alone : (k : ℕ) → citations_taken (rule_number rule) ≡ k ∷ [] → eqb count k ≡ among count (citations_taken (rule_number rule))
+    takes_alone k is = rw is (alone count k)
 
-    pub takes_action : rule ≡ 2 → eqb count 0 ≡ among count (citations_taken rule)
-    unfolding citations_taken pick
-    takes_action e = rw e (alone count 0)
+    pub takes_nothing : takes_none rule ≡ true → eqb count 0 ≡ among count (citations_taken (rule_number rule))
+    takes_nothing e = takes_alone 0 (none_taken rule e)
 
-    pub takes_sensing : rule ≡ 3 → (r : Bool) → r ≡ among count Counts → r ≡ among count (citations_taken rule)
+    pub takes_sensing : rule ≡ Sensing → (r : Bool) → r ≡ among count Counts → r ≡ among count (citations_taken (rule_number rule))
     unfolding citations_taken pick
     takes_sensing e r is = rw e is
 
-    pub takes_composition : rule ≡ 5 → eqb count 2 ≡ among count (citations_taken rule)
-    takes_composition e = rw (takes_two e) (alone count 2)
+    pub takes_composition : rule ≡ Composition → eqb count 2 ≡ among count (citations_taken (rule_number rule))
+    takes_composition e = takes_alone 2 (two_taken e)
 
-    pub takes_look : rule ≡ 7 → eqb count 0 ≡ among count (citations_taken rule)
-    unfolding citations_taken pick
-    takes_look e = rw e (alone count 0)
+    pub takes_single : takes_one rule ≡ true → eqb count 1 ≡ among count (citations_taken (rule_number rule))
+    takes_single e = takes_alone 1 (one_taken rule e)
 
-    pub takes_one : (rule ≡ 1 → ⊥) → (rule ≡ 2 → ⊥) → (rule ≡ 3 → ⊥) → (rule ≡ 5 → ⊥) → (rule ≡ 7 → ⊥) → eqb count 1 ≡ among count (citations_taken rule)
-    takes_one not_1 not_2 not_3 not-5 not-7 = rw (takes_other not_1 not_2 not_3 not-5 not-7) (alone count 1)
-
-    module _ (taken : among count (citations_taken rule) ≡ true) where
-      taken_two : rule ≡ 5 → count ≡ 2
-      taken_two e = eqb-true count 2 (takes_composition e ∙ taken)
-
-      taken_one : (rule ≡ 1 → ⊥) → (rule ≡ 2 → ⊥) → (rule ≡ 3 → ⊥) → (rule ≡ 5 → ⊥) → (rule ≡ 7 → ⊥) → count ≡ 1
-      taken_one not_1 not_2 not_3 not-5 not-7 = eqb-true count 1 (takes_one not_1 not_2 not_3 not-5 not-7 ∙ taken)
-
-      taken_some : (rule ≡ 1 → ⊥) → (rule ≡ 2 → ⊥) → (rule ≡ 3 → ⊥) → (rule ≡ 7 → ⊥) → 1 ≤ count
-      taken_some not_1 not_2 not_3 not-7 =
-          by-test (eqb rule 5)
-          (λ e. let two = taken_two (eqb-true rule 5 e) in omega (arith, two))
-          (λ f. let one = taken_one not_1 not_2 not_3 (λ e. clash (eq-eqb rule 5 e) f) not-7 in omega (arith, one))
+    taken_as_many : (k : ℕ) → citations_taken (rule_number rule) ≡ k ∷ [] → among count (citations_taken (rule_number rule)) ≡ true → count ≡ k
+    taken_as_many k is taken = eqb-true count k (takes_alone k is ∙ taken)
 
 -- WHAT EACH RULE GIVES.
 module _ (t : Table) (rule : ℕ) (cited : List Line) (l : Line) where
@@ -192,17 +233,36 @@ module _ (t : Table) (rule : ℕ) (cited : List Line) (l : Line) where
   unfolding given_by pick
   gives_look e = rw e refl
 
-  gives_literal : (rule ≡ 1 → ⊥) → (rule ≡ 2 → ⊥) → (rule ≡ 3 → ⊥) → (rule ≡ 4 → ⊥) → (rule ≡ 5 → ⊥) → (rule ≡ 6 → ⊥) → (rule ≡ 7 → ⊥)
-      → given_by format t rule cited l ≡ of_one (λ (x : Line). rule_8 x l) cited
-  unfolding given_by
-  gives_literal not_1 not_2 not_3 not-4 not-5 not-6 not-7 =
-      pick_false _ _ _ (ne_eqb _ _ not_1) ∙ pick_false _ _ _ (ne_eqb _ _ not_2) ∙ pick_false _ _ _ (ne_eqb _ _ not_3) ∙ pick_false _ _ _ (ne_eqb _ _ not-4)
-      ∙ pick_false _ _ _ (ne_eqb _ _ not-5) ∙ pick_false _ _ _ (ne_eqb _ _ not-6) ∙ pick_false _ _ _ (ne_eqb _ _ not-7)
+gives_last : (t : Table) (rule : Rule) (cited : List Line) (l : Line) → comes_last rule ≡ true → given_by format t (rule_number rule) cited l ≡ of_one (λ (x : Line). rule_8 x l) cited
+unfolding given_by pick
+gives_last t Empty cited l e = clash e refl
+gives_last t Action cited l e = clash e refl
+gives_last t Sensing cited l e = clash e refl
+gives_last t Branching cited l e = clash e refl
+gives_last t Composition cited l e = clash e refl
+gives_last t Consequence cited l e = clash e refl
+gives_last t Look cited l e = clash e refl
+gives_last t Literal cited l e = refl
+gives_last t SensingWhether cited l e = refl
+gives_last t CompositionWhether cited l e = refl
+gives_last t BranchingWhether cited l e = refl
 
--- EARLIER LINES. The numbers from `cites` on are as good as those from `at` on.
-pub record Earlier (d : List ℕ) (cites count i left at : ℕ) : Type 0 where
-  pub same : all_below i (numbers_from d cites count) ≡ all_below i (numbers_from d at left)
-  pub room : at + 2 * left ≤ length d
+last_takes_one : (rule : Rule) → comes_last rule ≡ true → takes_one rule ≡ true
+last_takes_one Empty e = clash e refl
+last_takes_one Action e = clash e refl
+last_takes_one Sensing e = clash e refl
+last_takes_one Branching e = clash e refl
+last_takes_one Composition e = clash e refl
+last_takes_one Consequence e = clash e refl
+last_takes_one Look e = clash e refl
+last_takes_one Literal e = refl
+last_takes_one SensingWhether e = refl
+last_takes_one CompositionWhether e = refl
+last_takes_one BranchingWhether e = refl
+
+-- EARLIER LINES. The numbers from `cites` on are as good as those from number k on.
+pub record Earlier (d : List ℕ) (cites count i k : ℕ) : Type 0 where
+  pub same : all_below i (numbers_from d cites count) ≡ all_below i (numbers_from d (cites + 2 * k) (count - k))
 
 numbers_next : (d : List ℕ) (at left : ℕ) → 0 < left → numbers_from d at left ≡ (get_or d at 0 * 256 + get_or d (at + 1) 0) ∷ numbers_from d (at + 2) (left - 1)
 unfolding numbers_from
@@ -210,39 +270,32 @@ numbers_next d at zero h = absurd (omega (arith, h))
 numbers_next d at (suc left) h = let same : suc left - 1 ≡ left = omega arith in rw same refl
 
 module _ (d : List ℕ) (cites count i : ℕ) where
-  pub earlier_start : cites + 2 * count ≤ length d → Earlier d cites count i count cites
-  earlier_start room = record { same = refl; room = room }
+  pub earlier_start : Earlier d cites count i 0
+  earlier_start =
+      let at : cites ≡ cites + 2 * 0 = omega arith in
+      let left : count ≡ count - 0 = omega arith in
+      record { same = ap₂ {C = Bool} (λ (p n : ℕ). all_below i (numbers_from d p n)) at left }
 
-  module _ (left at : ℕ) (so_far : Earlier d cites count i left at) where
-    pub earlier_done : left ≤ 0 → true ≡ all_below i (numbers_from d cites count)
+  module _ (k : ℕ) (so_far : Earlier d cites count i k) where
+    pub earlier_done : count ≤ k → true ≡ all_below i (numbers_from d cites count)
     unfolding numbers_from all_below each_of
-    earlier_done h = let none : left ≡ 0 = omega (arith, h) in sym (so_far.same ∙ ap (λ (j : ℕ). all_below i (numbers_from d at j)) none)
+    earlier_done h = let none : count - k ≡ 0 = omega (arith, h) in sym (so_far.same ∙ ap (λ (j : ℕ). all_below i (numbers_from d (cites + 2 * k) j)) none)
 
-    module _ (more : 0 < left) where
-      pub number_first : at < length d
-      number_first = let room = so_far.room in omega (arith, room, more)
+    module _ (more : k < count) (number : ℕ) (read : number ≡ get_or d (cites + 2 * k) 0 * 256 + get_or d (cites + 2 * k + 1) 0) where
+      on : all_below i (numbers_from d cites count) ≡ both (ltb number i) (all_below i (numbers_from d (cites + 2 * (k + 1)) (count - (k + 1))))
+      unfolding all_below each_of
+      on =
+          let at : cites + 2 * k + 2 ≡ cites + 2 * (k + 1) = omega arith in
+          let left : count - k - 1 ≡ count - (k + 1) = omega arith in
+          so_far.same ∙ ap (all_below i) (numbers_next d (cites + 2 * k) (count - k) (omega (arith, more))) ∙ rw (sym read, at, left) refl
 
-      pub number_second : at + 1 < length d
-      number_second = let room = so_far.room in omega (arith, room, more)
+      pub earlier_not : i ≤ number → false ≡ all_below i (numbers_from d cites count)
+      unfolding both
+      earlier_not h = sym (on ∙ rw (le-ltb number i h) refl)
 
-      pub number_fits : Fits w64 (length d) → Fits w64 (at + 1)
-      number_fits long = let room = so_far.room in let most = long.fits in record { fits = omega (arith, room, more, most) }
-
-      pub next_fits : Fits w64 (length d) → Fits w64 (at + 2)
-      next_fits long = let room = so_far.room in let most = long.fits in record { fits = omega (arith, room, more, most) }
-
-      module _ (number : ℕ) (read : number ≡ get_or d at 0 * 256 + get_or d (at + 1) 0) where
-        on : all_below i (numbers_from d cites count) ≡ both (ltb number i) (all_below i (numbers_from d (at + 2) (left - 1)))
-        unfolding all_below each_of
-        on = so_far.same ∙ ap (all_below i) (numbers_next d at left more) ∙ rw (sym read) refl
-
-        pub earlier_not : i ≤ number → false ≡ all_below i (numbers_from d cites count)
-        unfolding both
-        earlier_not h = sym (on ∙ rw (le-ltb number i h) refl)
-
-        pub earlier_next : number < i → Earlier d cites count i (left - 1) (at + 2)
-        unfolding both
-        earlier_next h = let room = so_far.room in record { same = on ∙ rw (lt-ltb number i h) refl; room = omega (arith, room, more) }
+      pub earlier_next : number < i → Earlier d cites count i (k + 1)
+      unfolding both
+      earlier_next h = record { same = on ∙ rw (lt-ltb number i h) refl }
 
 numbers_are : (d : List ℕ) (p : ℕ) (ks : List ℕ) → NumbersStand d p ks → numbers_from d p (length ks) ≡ ks
 unfolding NumbersStand numbers_from
@@ -258,27 +311,17 @@ numbers_room d p (k ∷ ks) h w = let there = w.0 in let rest = numbers_room d (
 cites_told : (d : List ℕ) (w : Spot) (l : Line) → Stands d w l → l.cites ≡ numbers_from d (w.cites + 1) (get_or d w.cites 0)
 cites_told d w l there = sym (numbers_are d (w.cites + 1) l.cites there.cites) ∙ ap (numbers_from d (w.cites + 1)) (sym there.cited)
 
--- The first number of some, and the only one.
-first_number : (d : List ℕ) (i q : ℕ) (ks : List ℕ) → 1 ≤ length ks → NumbersStand d q ks → each_of (λ (k : ℕ). ltb k i) ks ≡ true → (q + 1 < length d) × (get_or d q 0 * 256 + get_or d (q + 1) 0 < i)
-unfolding NumbersStand each_of
-first_number d i q [] h w e = absurd (omega (arith, h))
-first_number d i q (k ∷ ks) h w e = (w.0, rw w.1 (ltb-true k i (both_left _ _ e)))
+-- One number, or two.
+one_number : (ks : List ℕ) → length ks ≡ 1 → ks ≡ get_or ks 0 0 ∷ []
+one_number [] h = absurd (omega (arith, h))
+one_number (k ∷ []) h = refl
+one_number (k ∷ (j ∷ ks)) h = absurd (omega (arith, h))
 
-second_number : (d : List ℕ) (i q : ℕ) (ks : List ℕ) → 2 ≤ length ks → NumbersStand d q ks → each_of (λ (k : ℕ). ltb k i) ks ≡ true → (q + 2 + 1 < length d) × (get_or d (q + 2) 0 * 256 + get_or d (q + 2 + 1) 0 < i)
-unfolding NumbersStand each_of
-second_number d i q [] h w e = absurd (omega (arith, h))
-second_number d i q (k ∷ ks) h w e = first_number d i (q + 2) ks (omega (arith, h)) w.2 (both_right _ _ e)
-
-one_number : (d : List ℕ) (q : ℕ) (ks : List ℕ) → length ks ≡ 1 → NumbersStand d q ks → ks ≡ (get_or d q 0 * 256 + get_or d (q + 1) 0) ∷ []
-unfolding NumbersStand
-one_number d q [] h w = absurd (omega (arith, h))
-one_number d q (k ∷ []) h w = ap (λ (j : ℕ). j ∷ []) (sym w.1)
-one_number d q (k ∷ (j ∷ ks)) h w = absurd (omega (arith, h))
-
-two_numbers : (d : List ℕ) (q : ℕ) (ks : List ℕ) → length ks ≡ 2 → NumbersStand d q ks → ks ≡ (get_or d q 0 * 256 + get_or d (q + 1) 0) ∷ (get_or d (q + 2) 0 * 256 + get_or d (q + 2 + 1) 0) ∷ []
-unfolding NumbersStand
-two_numbers d q [] h w = absurd (omega (arith, h))
-two_numbers d q (k ∷ ks) h w = rw w.1 (ap (λ (js : List ℕ). k ∷ js) (one_number d (q + 2) ks (omega (arith, h)) w.2))
+two_numbers : (ks : List ℕ) → length ks ≡ 2 → ks ≡ get_or ks 0 0 ∷ get_or ks 1 0 ∷ []
+two_numbers [] h = absurd (omega (arith, h))
+two_numbers (k ∷ []) h = absurd (omega (arith, h))
+two_numbers (k ∷ (j ∷ [])) h = refl
+two_numbers (k ∷ (j ∷ (i ∷ ks))) h = absurd (omega (arith, h))
 
 line_small : (n m : ℕ) (d : List ℕ) → n ≤ format.fluents → m ≤ format.actions → (layout : Layout) (p : ℕ) (l : Line) → LineHere n m d layout p l → Small l.c
 line_small n m d few less layout p l here =
@@ -346,15 +389,6 @@ module _ (layout : Layout) (n m : ℕ) (d places : List ℕ) (count i : ℕ) (he
     pub cites_fit : Fits w64 (w.cites + 1)
     cites_fit = let there = cited_there in let long = here.all.stand.long in record { fits = omega (arith, there, long) }
 
-    pub cites_fit_2 : Fits w64 (w.cites + 2)
-    cites_fit_2 = let there = cited_there in let long = here.all.stand.long in record { fits = omega (arith, there, long) }
-
-    pub cites_fit_3 : Fits w64 (w.cites + 3)
-    cites_fit_3 = let there = cited_there in let long = here.all.stand.long in record { fits = omega (arith, there, long) }
-
-    pub cites_fit_4 : Fits w64 (w.cites + 4)
-    cites_fit_4 = let there = cited_there in let long = here.all.stand.long in record { fits = omega (arith, there, long) }
-
     pub cites_room : (cited : ℕ) → cited ≡ get_or d w.cites 0 → w.cites + 1 + 2 * cited ≤ length d
     cites_room cited counted =
         let there = cited_there in
@@ -362,34 +396,42 @@ module _ (layout : Layout) (n m : ℕ) (d places : List ℕ) (count i : ℕ) (he
         let room = numbers_room d (w.cites + 1) (line_in layout n m d i).cites (omega (arith, there)) own.cites in
         omega (arith, size, room)
 
-    pub rule_mapped : (rule : ℕ) → rule ≡ for_lists w.rule → rule ≡ for_lists (line_in layout n m d i).rule
-    rule_mapped rule mapped = mapped ∙ ap for_lists own.rule
-
     -- WHAT REFUSES IT.
-    module _ (known : Bool) (tested : known ≡ a_rule layout w.rule) where
+    pub not_said : (t : Table) → w.rule ≡ None → 31 ≡ refused_by layout t (lines_in layout n m d) i (line_in layout n m d i)
+    unfolding refused_by
+    not_said t none = sym (pick_true _ _ _ (fails_false _ (no_a_rule (line_in layout n m d i).rule (sym own.rule ∙ none) layout)))
+
+    module _ (said : Rule) (told : w.rule ≡ Some said) where
+      said_is : rule_number said ≡ (line_in layout n m d i).rule
+      said_is = rule_has (line_in layout n m d i).rule said (sym own.rule ∙ told)
+
+      pub rule_mapped : (rule : Rule) → rule_number rule ≡ for_lists (rule_number said) → rule_number rule ≡ for_lists (line_in layout n m d i).rule
+      rule_mapped rule mapped = mapped ∙ ap for_lists said_is
+
+    module _ (said : Rule) (told : w.rule ≡ Some said) (known : Bool) (tested : known ≡ a_rule layout (rule_number said)) where
       known_is : known ≡ a_rule layout (line_in layout n m d i).rule
-      known_is = tested ∙ ap (a_rule layout) own.rule
+      known_is = tested ∙ ap (a_rule layout) (said_is said told)
 
       pub not_known : (t : Table) → known ≡ false → 31 ≡ refused_by layout t (lines_in layout n m d) i (line_in layout n m d i)
       unfolding refused_by
       not_known t f = sym (pick_true _ _ _ (fails_false _ (sym known_is ∙ f)))
 
-      module _ (ruled : known ≡ true) (rule : ℕ) (mapped : rule ≡ for_lists w.rule) (cited : ℕ) (counted : cited ≡ get_or d w.cites 0) (right : Bool) (taken : right ≡ among cited (citations_taken rule)) where
+      module _ (ruled : known ≡ true) (rule : Rule) (mapped : rule_number rule ≡ for_lists (rule_number said)) (cited : ℕ) (counted : cited ≡ get_or d w.cites 0) (right : Bool) (taken : right ≡ among cited (citations_taken (rule_number rule))) where
         cited_is : cited ≡ length (line_in layout n m d i).cites
         cited_is = counted ∙ own.cited
 
         right_is : right ≡ among (length (line_in layout n m d i).cites) (citations_of (line_in layout n m d i).rule)
         unfolding citations_of
-        right_is = taken ∙ ap₂ {C = Bool} (λ (a b : ℕ). among a (citations_taken b)) cited_is (rule_mapped rule mapped)
+        right_is = taken ∙ ap₂ {C = Bool} (λ (a b : ℕ). among a (citations_taken b)) cited_is (rule_mapped said told rule mapped)
 
         pub not_taken : (t : Table) → right ≡ false → 33 ≡ refused_by layout t (lines_in layout n m d) i (line_in layout n m d i)
         unfolding refused_by
         not_taken t f = sym (pick_false _ _ _ (no_fail _ (sym known_is ∙ ruled)) ∙ pick_true _ _ _ (fails_false _ (sym right_is ∙ f)))
 
-        module _ (yes : right ≡ true) (earlier : Bool) (said : earlier ≡ all_below i (numbers_from d (w.cites + 1) cited)) where
+        module _ (yes : right ≡ true) (earlier : Bool) (judged : earlier ≡ all_below i (numbers_from d (w.cites + 1) cited)) where
           earlier_is : earlier ≡ each_of (λ (k : ℕ). ltb k i) (line_in layout n m d i).cites
           unfolding all_below
-          earlier_is = said ∙ ap (all_below i) (ap (numbers_from d (w.cites + 1)) cited_is ∙ numbers_are d (w.cites + 1) (line_in layout n m d i).cites own.cites)
+          earlier_is = judged ∙ ap (all_below i) (ap (numbers_from d (w.cites + 1)) cited_is ∙ numbers_are d (w.cites + 1) (line_in layout n m d i).cites own.cites)
 
           pub not_earlier : (t : Table) → earlier ≡ false → 32 ≡ refused_by layout t (lines_in layout n m d) i (line_in layout n m d i)
           unfolding refused_by
@@ -399,10 +441,10 @@ module _ (layout : Layout) (n m : ℕ) (d places : List ℕ) (count i : ℕ) (he
           pub cites_earlier : earlier ≡ true → CitesEarlier layout n m d i
           cites_earlier e = record { taken = sym right_is ∙ yes; earlier = sym earlier_is ∙ e }
 
-          module _ (before : earlier ≡ true) (t : Table) (good : Bool) (given : good ≡ Given t rule) where
+          module _ (before : earlier ≡ true) (t : Table) (good : Bool) (given : good ≡ Given t (rule_number rule)) where
             good_is : good ≡ follows format t (cited_by (lines_in layout n m d) (line_in layout n m d i)) (line_in layout n m d i)
             unfolding follows
-            good_is = given ∙ ap (Given t) (rule_mapped rule mapped)
+            good_is = given ∙ ap (Given t) (rule_mapped said told rule mapped)
 
             pub not_following : good ≡ false → 34 ≡ refused_by layout t (lines_in layout n m d) i (line_in layout n m d i)
             unfolding refused_by
@@ -417,15 +459,15 @@ module _ (layout : Layout) (n m : ℕ) (d places : List ℕ) (count i : ℕ) (he
                 ∙ pick_false _ _ _ (no_fail _ (sym good_is ∙ e)))
 
     -- WHAT IT FOLLOWS BY.
-    module _ (t : Table) (rule : ℕ) (r : Bool) where
-      pub by_empty : rule ≡ 1 → Ruled d w rule_1 r → r ≡ Given t rule
-      by_empty e says = says.holds (line_in layout n m d i) own ∙ sym (gives_empty t rule _ _ e)
+    module _ (t : Table) (rule : Rule) (r : Bool) where
+      pub by_empty : rule ≡ Empty → Ruled d w rule_1 r → r ≡ Given t (rule_number rule)
+      by_empty e says = says.holds (line_in layout n m d i) own ∙ sym (gives_empty t _ _ _ (ap rule_number e))
 
-      pub by_action : rule ≡ 2 → Ruled d w (rule_2 format t) r → r ≡ Given t rule
-      by_action e says = says.holds (line_in layout n m d i) own ∙ sym (gives_action t rule _ _ e)
+      pub by_action : rule ≡ Action → Ruled d w (rule_2 format t) r → r ≡ Given t (rule_number rule)
+      by_action e says = says.holds (line_in layout n m d i) own ∙ sym (gives_action t _ _ _ (ap rule_number e))
 
-      pub by_look : rule ≡ 7 → Ruled d w (rule_7 format t) r → r ≡ Given t rule
-      by_look e says = says.holds (line_in layout n m d i) own ∙ sym (gives_look t rule _ _ e)
+      pub by_look : rule ≡ Look → Ruled d w (rule_7 format t) r → r ≡ Given t (rule_number rule)
+      by_look e says = says.holds (line_in layout n m d i) own ∙ sym (gives_look t _ _ _ (ap rule_number e))
 
     module _ (citing : CitesEarlier layout n m d i) where
       pub cited_below : CitedBelow d w count
@@ -438,113 +480,125 @@ module _ (layout : Layout) (n m : ℕ) (d places : List ℕ) (count i : ℕ) (he
                 (each_mono (λ (k : ℕ). ltb k i) (λ (k : ℕ). ltb k count) (λ k e. let less = ltb-true k i e in lt-ltb k count (omega (arith, less, below))) (line_in layout n m d i).cites citing.earlier);
           }
 
-      pub by_sensing : (t : Table) (rule : ℕ) (r : Bool) → rule ≡ 3 → RuledByAll layout d places w (rule_3 format t) r → r ≡ Given t rule
+      pub by_sensing : (t : Table) (rule : Rule) (r : Bool) → rule ≡ Sensing → RuledByAll layout d places w (rule_3 format t) r → r ≡ Given t (rule_number rule)
       by_sensing t rule r e says =
           says.holds (lines_in layout n m d) (line_in layout n m d i) here.all.stand own (rw here.all.size (cited_below.holds (line_in layout n m d i) own))
-          ∙ sym (gives_sensing t rule _ _ e)
+          ∙ sym (gives_sensing t _ _ _ (ap rule_number e))
 
-      module _ (rule : ℕ) (mapped : rule ≡ for_lists (line_in layout n m d i).rule) where
-        taken_as : among (length (line_in layout n m d i).cites) (citations_taken rule) ≡ true
+      -- CITATION k.
+      abbrev cites : List ℕ
+      cites = (line_in layout n m d i).cites
+
+      module _ (k : ℕ) (less : k < length cites) where
+        citation_there : w.cites + 1 + 2 * k + 1 < length d
+        citation_there = (number_stands d cites (w.cites + 1) k own.cites less).0
+
+        citation_is : number_cited d w k ≡ get_or cites k 0
+        citation_is = (number_stands d cites (w.cites + 1) k own.cites less).1
+
+        citation_below : number_cited d w k < count
+        citation_below =
+            let same = citation_is in let below = here.below in
+            let earlier = ltb-true (get_or cites k 0) i (each_at (λ (j : ℕ). ltb j i) cites k citing.earlier less) in
+            omega (arith, same, below, earlier)
+
+        module _ (v : Spot) (at : v ≡ spot_in layout d places (number_cited d w k)) where
+          citation_some : SomeLine d v
+          citation_some = some_at (number_cited d w k) citation_below v at
+
+          citation_stands : Stands d v (get_or (lines_in layout n m d) (get_or cites k 0) (line_in layout n m d i))
+          citation_stands =
+              subst (λ (j : ℕ). Stands d v (get_or (lines_in layout n m d) j (line_in layout n m d i))) citation_is
+              (stands_at (number_cited d w k) citation_below (line_in layout n m d i) v at)
+
+      module _ (rule : Rule) (mapped : rule_number rule ≡ for_lists (line_in layout n m d i).rule) where
+        taken_as : among (length cites) (citations_taken (rule_number rule)) ≡ true
         unfolding citations_of
         taken_as = rw mapped citing.taken
 
-        next : w.cites + 1 + 1 ≡ w.cites + 2
-        next = omega arith
+        -- The one citation.
+        module _ (one : takes_one rule ≡ true) where
+          size_one : length cites ≡ 1
+          size_one = taken_as_many rule (length cites) 1 (one_taken rule one) taken_as
 
-        -- The second of two.
-        module _ (five : rule ≡ 5) where
-          size_two : length (line_in layout n m d i).cites ≡ 2
-          size_two = taken_two rule (length (line_in layout n m d i).cites) taken_as five
+          first_near : 0 < length cites
+          first_near = let size = size_one in omega (arith, size)
 
-          second : (w.cites + 1 + 2 + 1 < length d) × (get_or d (w.cites + 1 + 2) 0 * 256 + get_or d (w.cites + 1 + 2 + 1) 0 < i)
-          second = let two = size_two in second_number d i (w.cites + 1) (line_in layout n m d i).cites (omega (arith, two)) own.cites citing.earlier
+          pub one_there : w.cites + 1 + 2 * 0 + 1 < length d
+          one_there = citation_there 0 first_near
 
-          third : w.cites + 1 + 2 ≡ w.cites + 3
-          third = omega arith
+          pub one_below : number_cited d w 0 < count
+          one_below = citation_below 0 first_near
 
-          fourth : w.cites + 3 + 1 ≡ w.cites + 4
-          fourth = omega arith
+          module _ (v : Spot) (at : v ≡ spot_in layout d places (number_cited d w 0)) where
+            pub one_some : SomeLine d v
+            one_some = citation_some 0 first_near v at
 
-          pub second_high : w.cites + 3 < length d
-          second_high = let there = second.0 in omega (arith, there)
+            abbrev one_line : Line
+            one_line = get_or (lines_in layout n m d) (get_or cites 0 0) (line_in layout n m d i)
 
-          pub second_low : w.cites + 4 < length d
-          second_low = let there = second.0 in omega (arith, there)
+            one_stands : Stands d v one_line
+            one_stands = citation_stands 0 first_near v at
 
-          module _ (other : ℕ) (read-too : other ≡ get_or d (w.cites + 3) 0 * 256 + get_or d (w.cites + 4) 0) where
-            other_on : other ≡ get_or d (w.cites + 1 + 2) 0 * 256 + get_or d (w.cites + 1 + 2 + 1) 0
-            other_on = rw (third, fourth) read-too
+            only : cited_by (lines_in layout n m d) (line_in layout n m d i) ≡ one_line ∷ []
+            unfolding cited_by
+            only = ap (map (λ (k : ℕ). get_or (lines_in layout n m d) k (line_in layout n m d i))) (one_number cites size_one)
 
-            pub other_below : other < count
-            other_below = let less = second.1 in let below = here.below in let same = other_on in omega (arith, less, below, same)
+            module _ (t : Table) (r : Bool) where
+              pub by_branching : rule ≡ Branching → ReadBy n m d v w rule_4 r → r ≡ Given t (rule_number rule)
+              unfolding of_one
+              by_branching e says =
+                  says.holds layout one_line (line_in layout n m d i) one_stands own_here own
+                  ∙ sym (gives_branching t _ _ _ (ap rule_number e) ∙ ap (of_one (λ (x : Line). rule_4 x (line_in layout n m d i))) only)
 
-            pub other_some : (u : Spot) → u ≡ spot_in layout d places other → SomeLine d u
-            other_some u there = some_at other other_below u there
+              pub by_consequence : rule ≡ Consequence → RuledBy d v w rule_6 r → r ≡ Given t (rule_number rule)
+              unfolding of_one
+              by_consequence e says =
+                  says.holds one_line (line_in layout n m d i) one_stands own
+                  ∙ sym (gives_consequence t _ _ _ (ap rule_number e) ∙ ap (of_one (λ (x : Line). rule_6 x (line_in layout n m d i))) only)
 
-        -- The first.
-        module _ (not_1 : rule ≡ 1 → ⊥) (not_2 : rule ≡ 2 → ⊥) (not_3 : rule ≡ 3 → ⊥) (not-7 : rule ≡ 7 → ⊥) where
-          first : (w.cites + 1 + 1 < length d) × (get_or d (w.cites + 1) 0 * 256 + get_or d (w.cites + 1 + 1) 0 < i)
-          first =
-              first_number d i (w.cites + 1) (line_in layout n m d i).cites (taken_some rule (length (line_in layout n m d i).cites) taken_as not_1 not_2 not_3 not-7) own.cites
-              citing.earlier
+              pub by_literal : comes_last rule ≡ true → RuledBy d v w rule_8 r → r ≡ Given t (rule_number rule)
+              unfolding of_one
+              by_literal e says =
+                  says.holds one_line (line_in layout n m d i) one_stands own
+                  ∙ sym (gives_last t rule _ _ e ∙ ap (of_one (λ (x : Line). rule_8 x (line_in layout n m d i))) only)
 
-          pub first_high : w.cites + 1 < length d
-          first_high = let there = first.0 in omega (arith, there)
+        -- Two.
+        module _ (five : rule ≡ Composition) where
+          size_two : length cites ≡ 2
+          size_two = taken_as_many rule (length cites) 2 (two_taken rule five) taken_as
 
-          pub first_low : w.cites + 2 < length d
-          first_low = let there = first.0 in omega (arith, there)
+          both_near : (k : ℕ) → k < 2 → k < length cites
+          both_near k h = let size = size_two in omega (arith, h, size)
 
-          module _ (one : ℕ) (read : one ≡ get_or d (w.cites + 1) 0 * 256 + get_or d (w.cites + 2) 0) where
-            one_on : one ≡ get_or d (w.cites + 1) 0 * 256 + get_or d (w.cites + 1 + 1) 0
-            one_on = read ∙ ap (λ (j : ℕ). get_or d (w.cites + 1) 0 * 256 + get_or d j 0) (sym next)
+          pub first_there : w.cites + 1 + 2 * 0 + 1 < length d
+          first_there = citation_there 0 (both_near 0 (omega arith))
 
-            pub one_below : one < count
-            one_below = let less = first.1 in let below = here.below in let same = one_on in omega (arith, less, below, same)
+          pub first_below : number_cited d w 0 < count
+          first_below = citation_below 0 (both_near 0 (omega arith))
 
-            module _ (v : Spot) (at_one : v ≡ spot_in layout d places one) where
-              pub one_some : SomeLine d v
-              one_some = some_at one one_below v at_one
+          pub second_there : w.cites + 1 + 2 * 1 + 1 < length d
+          second_there = citation_there 1 (both_near 1 (omega arith))
 
-              one_stands : Stands d v (get_or (lines_in layout n m d) one (line_in layout n m d i))
-              one_stands = stands_at one one_below (line_in layout n m d i) v at_one
+          pub second_below : number_cited d w 1 < count
+          second_below = citation_below 1 (both_near 1 (omega arith))
 
-              only : (rule ≡ 5 → ⊥) → cited_by (lines_in layout n m d) (line_in layout n m d i) ≡ get_or (lines_in layout n m d) one (line_in layout n m d i) ∷ []
-              unfolding cited_by
-              only not-5 =
-                  let size : length (line_in layout n m d i).cites ≡ 1 = taken_one rule (length (line_in layout n m d i).cites) taken_as not_1 not_2 not_3 not-5 not-7 in
-                  ap (map (λ (k : ℕ). get_or (lines_in layout n m d) k (line_in layout n m d i)))
-                  (one_number d (w.cites + 1) (line_in layout n m d i).cites size own.cites ∙ ap (λ (k : ℕ). k ∷ []) (sym one_on))
+          pub first_some : (v : Spot) → v ≡ spot_in layout d places (number_cited d w 0) → SomeLine d v
+          first_some = citation_some 0 (both_near 0 (omega arith))
 
-              module _ (t : Table) (r : Bool) where
-                pub by_branching : rule ≡ 4 → ReadBy n m d v w rule_4 r → r ≡ Given t rule
-                unfolding of_one
-                by_branching e says =
-                    says.holds layout (get_or (lines_in layout n m d) one (line_in layout n m d i)) (line_in layout n m d i) one_stands own_here own
-                    ∙ sym (gives_branching t rule _ _ e ∙ ap (of_one (λ (x : Line). rule_4 x (line_in layout n m d i))) (only (λ f. omega (arith, e, f))))
+          pub second_some : (v : Spot) → v ≡ spot_in layout d places (number_cited d w 1) → SomeLine d v
+          second_some = citation_some 1 (both_near 1 (omega arith))
 
-                pub by_consequence : rule ≡ 6 → RuledBy d v w rule_6 r → r ≡ Given t rule
-                unfolding of_one
-                by_consequence e says =
-                    says.holds (get_or (lines_in layout n m d) one (line_in layout n m d i)) (line_in layout n m d i) one_stands own
-                    ∙ sym (gives_consequence t rule _ _ e ∙ ap (of_one (λ (x : Line). rule_6 x (line_in layout n m d i))) (only (λ f. omega (arith, e, f))))
+          abbrev line_cited : ℕ → Line
+          line_cited k = get_or (lines_in layout n m d) (get_or cites k 0) (line_in layout n m d i)
 
-                pub by_literal : (rule ≡ 4 → ⊥) → (rule ≡ 5 → ⊥) → (rule ≡ 6 → ⊥) → RuledBy d v w rule_8 r → r ≡ Given t rule
-                unfolding of_one
-                by_literal not-4 not-5 not-6 says =
-                    says.holds (get_or (lines_in layout n m d) one (line_in layout n m d i)) (line_in layout n m d i) one_stands own
-                    ∙ sym (gives_literal t rule _ _ not_1 not_2 not_3 not-4 not-5 not-6 not-7 ∙ ap (of_one (λ (x : Line). rule_8 x (line_in layout n m d i))) (only not-5))
+          pair : cited_by (lines_in layout n m d) (line_in layout n m d i) ≡ line_cited 0 ∷ line_cited 1 ∷ []
+          unfolding cited_by
+          pair = ap (map (λ (k : ℕ). get_or (lines_in layout n m d) k (line_in layout n m d i))) (two_numbers cites size_two)
 
-              module _ (five : rule ≡ 5) (other : ℕ) (read-too : other ≡ get_or d (w.cites + 3) 0 * 256 + get_or d (w.cites + 4) 0) where
-                pair : cited_by (lines_in layout n m d) (line_in layout n m d i) ≡ get_or (lines_in layout n m d) one (line_in layout n m d i) ∷ get_or (lines_in layout n m d) other (line_in layout n m d i) ∷ []
-                unfolding cited_by
-                pair =
-                    ap (map (λ (k : ℕ). get_or (lines_in layout n m d) k (line_in layout n m d i)))
-                    (two_numbers d (w.cites + 1) (line_in layout n m d i).cites (size_two five) own.cites
-                    ∙ ap₂ {C = List ℕ} (λ (a b : ℕ). a ∷ b ∷ []) (sym one_on) (sym (other_on five other read-too)))
-
-                pub by_composition : (u : Spot) → u ≡ spot_in layout d places other → (t : Table) (r : Bool) → RuledByTwo d v u w rule_5 r → r ≡ Given t rule
-                unfolding of_two
-                by_composition u at_other t r says =
-                    says.holds (get_or (lines_in layout n m d) one (line_in layout n m d i)) (get_or (lines_in layout n m d) other (line_in layout n m d i)) (line_in layout n m d i) one_stands
-                    (stands_at other (other_below five other read-too) (line_in layout n m d i) u at_other) own
-                    ∙ sym (gives_composition t rule _ _ five ∙ ap (of_two (λ (x z : Line). rule_5 x z (line_in layout n m d i))) pair)
+          pub by_composition : (v : Spot) → v ≡ spot_in layout d places (number_cited d w 0) → (u : Spot) → u ≡ spot_in layout d places (number_cited d w 1) → (t : Table) (r : Bool) → RuledByTwo d v u w rule_5 r
+              → r ≡ Given t (rule_number rule)
+          unfolding of_two
+          by_composition v at u at_other t r says =
+              says.holds (line_cited 0) (line_cited 1) (line_in layout n m d i) (citation_stands 0 (both_near 0 (omega arith)) v at) (citation_stands 1 (both_near 1 (omega arith)) u at_other) own
+              ∙ sym (gives_composition t _ _ _ (ap rule_number five) ∙ ap (of_two (λ (x z : Line). rule_5 x z (line_in layout n m d i))) pair)

@@ -16,11 +16,15 @@ use Rattle.meaning.specs.Requests.{Table}
 use Rattle.meaning.specs.Reading.{Got, fault}
 use Rattle.meaning.specs.Derivations.{Line, follows, citations_of, a_rule, cited_by, check_lines}
 use Rattle.meaning.proofs.TestLaws.{pick_true, pick_false}
-use Rattle.parsing.specs.declared.lists.Passed.TheVariants.{To, Fault as Stop}
-use Rattle.parsing.specs.Read.{passed}
+use Rattle.std.specs.Prelude.{Option, Some, None, Ok, Err}
+use Rattle.parsing.specs.declared.faults.Refusal.{Refusal}
+use Rattle.parsing.specs.declared.faults.Refusal.TheVariants.{TooLong, EndsTooSoon, CountOutside, TooLarge, NotAbove, ComplementBeside, ContradictoryEffects, EffectAndKnowledge, NotExclusive, NestedTooDeep, BytesAfter, TooManyItems, NoSuchRule, NotEarlier, CitationsNotTaken, DoesNotFollow, NotTheQuestion, ClosingNotRight, SaysIsNot}
+use Rattle.parsing.specs.declared.faults.Fault.{Fault}
+use Rattle.parsing.specs.Faults.{number_of}
+use Rattle.parsing.specs.Read.{over, passed}
 use Rattle.derivation.specs.DerivationRead.{plan_ends_slot, places_slots}
 use Rattle.comparing.proofs.SpotLaws.{spot_line}
-use Rattle.checking.specs.Checked.{lines_in, no_line, line_in, spot_in, AllStand, Numbered, refused_by}
+use Rattle.checking.specs.Checked.{lines_in, no_line, line_in, spot_in, AllStand, Numbered, refused_by, number_or_none}
 use Rattle.checking.proofs.EachLineLaws.{own_few, own}
 
 -- ONE LINE: refused by its number, or passed over.
@@ -48,6 +52,28 @@ module _ (layout : Layout) (t : Table) (lines : List Line) (i : ℕ) (l : Line) 
   line_passed : refused_by layout t lines i l ≤ 0 → check_lines format layout t lines i (l ∷ ls) ≡ check_lines format layout t lines (i + 1) ls
   line_passed h = line_first ∙ pick_false _ _ _ (le-ltb _ _ h)
 
+-- No refusal has the number 0.
+refusal_some : (refusal : Refusal) → 0 < number_of refusal
+refusal_some TooLong = omega arith
+refusal_some EndsTooSoon = omega arith
+refusal_some CountOutside = omega arith
+refusal_some TooLarge = omega arith
+refusal_some NotAbove = omega arith
+refusal_some ComplementBeside = omega arith
+refusal_some ContradictoryEffects = omega arith
+refusal_some EffectAndKnowledge = omega arith
+refusal_some NotExclusive = omega arith
+refusal_some NestedTooDeep = omega arith
+refusal_some BytesAfter = omega arith
+refusal_some TooManyItems = omega arith
+refusal_some NoSuchRule = omega arith
+refusal_some NotEarlier = omega arith
+refusal_some CitationsNotTaken = omega arith
+refusal_some DoesNotFollow = omega arith
+refusal_some NotTheQuestion = omega arith
+refusal_some ClosingNotRight = omega arith
+refusal_some SaysIsNot = omega arith
+
 -- FROM LINE i ON.
 pub record Checking (layout : Layout) (t : Table) (lines : List Line) (i : ℕ) : Type 0 where
   pub same : check_lines format layout t lines 0 lines ≡ check_lines format layout t lines i (drop i lines)
@@ -64,7 +90,7 @@ module _ (layout : Layout) (n m : ℕ) (d places : List ℕ) (count : ℕ) (all 
 
   module _ (t : Table) (i : ℕ) (so_far : Checking layout t (lines_in layout n m d) i) where
     -- Past the last line.
-    pub lines_through : count ≤ i → To 0 ≡ passed (check_lines format layout t (lines_in layout n m d) 0 (lines_in layout n m d))
+    pub lines_through : count ≤ i → over (Ok 0) ≡ passed (check_lines format layout t (lines_in layout n m d) 0 (lines_in layout n m d))
     unfolding check_lines passed
     lines_through over =
         let size = all.size in
@@ -80,15 +106,19 @@ module _ (layout : Layout) (n m : ℕ) (d places : List ℕ) (count : ℕ) (all 
           ∙ ap (check_lines format layout t (lines_in layout n m d) i)
           (drop-cons (lines_in layout n m d) i no_line (omega (arith, size, more)) ∙ ap (λ (j : ℕ). get_or (lines_in layout n m d) i no_line ∷ drop j (lines_in layout n m d)) same)
 
-      module _ (number : ℕ) (is : number ≡ refused_by layout t (lines_in layout n m d) i (line_in layout n m d i)) where
-        pub checking_next : number ≤ 0 → Checking layout t (lines_in layout n m d) (i + 1)
-        checking_next h = record { same = on ∙ line_passed layout t (lines_in layout n m d) i (line_in layout n m d i) (drop (i + 1) (lines_in layout n m d)) (subst (λ (j : ℕ). j ≤ 0) is h) }
+      module _ (told : Option Refusal) (is : number_or_none told ≡ refused_by layout t (lines_in layout n m d) i (line_in layout n m d i)) where
+        pub checking_next : told ≡ None → Checking layout t (lines_in layout n m d) (i + 1)
+        checking_next none =
+            let follows : 0 ≡ refused_by layout t (lines_in layout n m d) i (line_in layout n m d i) = ap number_or_none (sym none) ∙ is in
+            record { same = on ∙ line_passed layout t (lines_in layout n m d) i (line_in layout n m d i) (drop (i + 1) (lines_in layout n m d)) (omega (arith, follows)) }
 
-        stopped : 0 < number → (p : ℕ) → p ≡ get_or places i 0 → check_lines format layout t (lines_in layout n m d) 0 (lines_in layout n m d) ≡ fault number p
-        stopped h p place =
+        stopped_at : (refusal : Refusal) → told ≡ Some refusal → (p : ℕ) → p ≡ get_or places i 0 → check_lines format layout t (lines_in layout n m d) 0 (lines_in layout n m d) ≡ fault (number_of refusal) p
+        stopped_at refusal some p place =
             let there : (line_in layout n m d i).place ≡ p = (own layout n m d places count i (line_numbered i more) (spot_in layout d places i) refl).place ∙ spot_line layout d (get_or places i 0) (get_or places (plan_ends_slot + i) 0) ∙ sym place in
-            on ∙ line_refused layout t (lines_in layout n m d) i (line_in layout n m d i) (drop (i + 1) (lines_in layout n m d)) (subst (λ (j : ℕ). 0 < j) is h) ∙ rw (sym is, there) refl
+            let refused : number_of refusal ≡ refused_by layout t (lines_in layout n m d) i (line_in layout n m d i) = ap number_or_none (sym some) ∙ is in
+            on ∙ line_refused layout t (lines_in layout n m d) i (line_in layout n m d i) (drop (i + 1) (lines_in layout n m d)) (subst (λ (j : ℕ). 0 < j) refused (refusal_some refusal)) ∙ rw (sym refused, there) refl
 
-        pub line_stops : 0 < number → (p : ℕ) → p ≡ get_or places i 0 → Stop number p ≡ passed (check_lines format layout t (lines_in layout n m d) 0 (lines_in layout n m d))
+        pub line_stops : (refusal : Refusal) → told ≡ Some refusal → (p : ℕ) → p ≡ get_or places i 0 → (why : Fault) → why ≡ record { refusal = refusal; place = p }
+            → over (Err why) ≡ passed (check_lines format layout t (lines_in layout n m d) 0 (lines_in layout n m d))
         unfolding passed
-        line_stops h p place = rw (stopped h p place) refl
+        line_stops refusal some p place why is-why = rw (is-why, stopped_at refusal some p place) refl

@@ -12,7 +12,9 @@ use Rattle.meaning.specs.Limits.{format, all_literals}
 use Rattle.meaning.specs.Requests.{Entry, Request, values}
 use Rattle.meaning.specs.Reading.{placed}
 use Rattle.meaning.specs.Derivations.{Conclusion, knows, knows_whether, Line, same_list, same_plan, same_conclusion, says, asks_for, goals_of}
-use Rattle.meaning.proofs.TestLaws.{clash}
+use Rattle.std.specs.Prelude.{Option, Some, None}
+use borrow.Author.Tests.{eqb-true, eq-eqb}
+use Rattle.meaning.proofs.TestLaws.{same_test}
 use Rattle.meaning.proofs.ReadLines.{placed_values}
 use Rattle.reading.specs.Listed.{listed, ListHere}
 use Rattle.reading.specs.Noted.{plan_slot, items_slot, goals_slot}
@@ -20,13 +22,12 @@ use Rattle.finding.specs.Branches.{sequence_place}
 use Rattle.steps.specs.Held.{table_in, plan_in, goals_in, whether_in, request_in}
 use Rattle.steps.specs.AtHand.{AtHand}
 use Rattle.steps.proofs.HandLaws.{starts, sections, goals_here, is_whether}
+use Rattle.comparing.specs.declared.spots.Concludes.TheVariants.{Literals, Fluent}
 use Rattle.comparing.specs.declared.spots.Spot.{Spot}
 use Rattle.comparing.specs.Stands.{PlanStands, ConclusionStands, Stands}
 use Rattle.comparing.specs.RuleAnswers.{SomePlan, SamePlans, SomeConcluded, SomeStands, Ruled}
-use Rattle.checking.specs.declared.question.Asked.{Asked}
-use Rattle.checking.specs.declared.question.Asked.TheVariants.{Goals, Fluent}
 use Rattle.checking.specs.Asked.{conclusion_asked, begins}
-use Rattle.comparing.proofs.SpotLaws.{concluded_there, concluded_list}
+use Rattle.comparing.proofs.SpotLaws.{concluded_as, concluded_list}
 use Rattle.comparing.proofs.LinesStand.{plan_stands}
 use Rattle.ruling.proofs.RuleLaws.{no_left, yes_left, plan_of}
 use Rattle.meaning.specs.declared.Form.TheVariants.{Flags}
@@ -112,33 +113,33 @@ module _ (d : List ℕ) (w : Spot) (some : SomeStands d w) where
   concluded : SomeConcluded d w
   concluded = record { conclusion = some.line.Y; stands = some.stands.Y }
 
-  pub own_list : w.fluent ≡ false → ListHere all_literals d w.conclusion
-  own_list list = concluded_list d w list concluded
+  pub own_list : (y : ℕ) → w.conclusion ≡ Literals y → ListHere all_literals d y
+  own_list y list = concluded_list d w y list concluded
 
-  pub own_byte : w.conclusion < length d
-  own_byte = concluded_there d w concluded
+eqb_either_way : (a b : ℕ) → eqb a b ≡ eqb b a
+eqb_either_way a b = same_test (eqb a b) (eqb b a) (λ t. eq-eqb b a (sym (eqb-true a b t))) (λ t. eq-eqb a b (sym (eqb-true b a t)))
 
--- A CONCLUSION that stands at y, against a list and against a fluent.
-module _ (d : List ℕ) (y : ℕ) (fluent : Bool) where
-  list_as : fluent ≡ false → (Y : Conclusion) → ConclusionStands d fluent y Y → (xs : List ℕ) → same_conclusion Y (knows xs) ≡ same_list (listed d y) xs
+-- A CONCLUSION that stands there, against a list and against a fluent.
+module _ (d : List ℕ) where
+  list_as : (y : ℕ) (Y : Conclusion) → ConclusionStands d (Literals y) Y → (xs : List ℕ) → same_conclusion Y (knows xs) ≡ same_list (listed d y) xs
   unfolding ConclusionStands same_conclusion
-  list_as f (knows Y) there xs = rw there.1.same refl
-  list_as f (knows_whether g) there xs = clash there.0 f
+  list_as y (knows Y) there xs = rw there.same refl
+  list_as y (knows_whether g) there xs = absurd there
 
-  list_other : fluent ≡ true → (Y : Conclusion) → ConclusionStands d fluent y Y → (xs : List ℕ) → same_conclusion Y (knows xs) ≡ false
+  list_other : (h : ℕ) (Y : Conclusion) → ConclusionStands d (Fluent h) Y → (xs : List ℕ) → same_conclusion Y (knows xs) ≡ false
   unfolding ConclusionStands same_conclusion
-  list_other e (knows Y) there xs = clash e there.0
-  list_other e (knows_whether g) there xs = refl
+  list_other h (knows Y) there xs = absurd there
+  list_other h (knows_whether g) there xs = refl
 
-  fluent_as : fluent ≡ true → (Y : Conclusion) → ConclusionStands d fluent y Y → (f : ℕ) → same_conclusion Y (knows_whether f) ≡ eqb (get_or d y 0) f
+  fluent_as : (h : ℕ) (Y : Conclusion) → ConclusionStands d (Fluent h) Y → (f : ℕ) → same_conclusion Y (knows_whether f) ≡ eqb f h
   unfolding ConclusionStands same_conclusion
-  fluent_as e (knows Y) there f = clash e there.0
-  fluent_as e (knows_whether g) there f = rw there.2 refl
+  fluent_as h (knows Y) there f = absurd there
+  fluent_as h (knows_whether g) there f = let same = there.0 in rw (sym same) (eqb_either_way h f)
 
-  fluent_other : fluent ≡ false → (Y : Conclusion) → ConclusionStands d fluent y Y → (f : ℕ) → same_conclusion Y (knows_whether f) ≡ false
+  fluent_other : (y : ℕ) (Y : Conclusion) → ConclusionStands d (Literals y) Y → (f : ℕ) → same_conclusion Y (knows_whether f) ≡ false
   unfolding ConclusionStands same_conclusion
-  fluent_other e (knows Y) there f = refl
-  fluent_other e (knows_whether g) there f = clash there.0 e
+  fluent_other y (knows Y) there f = refl
+  fluent_other y (knows_whether g) there f = absurd there
 
 -- THE QUESTION of a line at a spot: its start, then its conclusion.
 both_again : (a b c : Bool) → both a (both b c) ≡ both (both a b) c
@@ -150,7 +151,7 @@ begins_first : (r : Request) (Y : Conclusion) (l : Line) → asks_for r Y l ≡ 
 unfolding asks_for says begins
 begins_first r Y l = both_again (same_list l.X r.table.facts) (same_plan l.c r.plan) (same_conclusion l.Y Y)
 
-module _ (r : Request) (d : List ℕ) (w : Spot) (asked : Asked) (begun : Bool) (first : Ruled d w (begins r) begun) where
+module _ (r : Request) (d : List ℕ) (w : Spot) (asked : Option ℕ) (begun : Bool) (first : Ruled d w (begins r) begun) where
   pub other_start : begun ≡ false → Ruled d w (asks_for r (conclusion_asked r asked)) false
   other_start f =
       record {
@@ -161,46 +162,46 @@ module _ (r : Request) (d : List ℕ) (w : Spot) (asked : Asked) (begun : Bool) 
     asks_as : (Y : Conclusion) → conclusion_asked r asked ≡ Y → (l : Line) → Stands d w l → asks_for r (conclusion_asked r asked) l ≡ same_conclusion l.Y Y
     asks_as Y is l stands = begins_first r (conclusion_asked r asked) l ∙ yes_left (begins r l) _ (sym (first.holds l stands) ∙ begin) ∙ ap (same_conclusion l.Y) is
 
-    module _ (goals : asked ≡ Goals) where
+    module _ (goals : asked ≡ None) where
       is_goals : conclusion_asked r asked ≡ goals_of r
       unfolding conclusion_asked
       is_goals = rw goals refl
 
-      pub goals_not_fluent : w.fluent ≡ true → Ruled d w (asks_for r (conclusion_asked r asked)) false
+      pub goals_not_fluent : (g : ℕ) → w.conclusion ≡ Fluent g → Ruled d w (asks_for r (conclusion_asked r asked)) false
       unfolding goals_of
-      goals_not_fluent e =
+      goals_not_fluent g e =
           record {
             holds = λ l stands.
-                sym (asks_as (goals_of r) is_goals l stands ∙ list_other d w.conclusion w.fluent e l.Y stands.Y (values r.goals));
+                sym (asks_as (goals_of r) is_goals l stands ∙ list_other d g l.Y (concluded_as d w.conclusion (Fluent g) l.Y e stands.Y) (values r.goals));
           }
 
-      goals_list : w.fluent ≡ false → (xs : List ℕ) → xs ≡ values r.goals → (same : Bool) → same ≡ same_list (listed d w.conclusion) xs → Ruled d w (asks_for r (conclusion_asked r asked)) same
+      goals_list : (y : ℕ) → w.conclusion ≡ Literals y → (xs : List ℕ) → xs ≡ values r.goals → (same : Bool) → same ≡ same_list (listed d y) xs → Ruled d w (asks_for r (conclusion_asked r asked)) same
       unfolding goals_of
-      goals_list e xs are same is =
+      goals_list y e xs are same is =
           record {
             holds = λ l stands.
                 is
-                ∙ ap (same_list (listed d w.conclusion)) are
-                ∙ sym (asks_as (goals_of r) is_goals l stands ∙ list_as d w.conclusion w.fluent e l.Y stands.Y (values r.goals));
+                ∙ ap (same_list (listed d y)) are
+                ∙ sym (asks_as (goals_of r) is_goals l stands ∙ list_as d y l.Y (concluded_as d w.conclusion (Literals y) l.Y e stands.Y) (values r.goals));
           }
 
-    module _ (f : ℕ) (fluent : asked ≡ Fluent f) where
+    module _ (f : ℕ) (fluent : asked ≡ Some f) where
       is_fluent : conclusion_asked r asked ≡ knows_whether f
       unfolding conclusion_asked
       is_fluent = rw fluent refl
 
-      pub fluent_not_list : w.fluent ≡ false → Ruled d w (asks_for r (conclusion_asked r asked)) false
-      fluent_not_list e =
+      pub fluent_not_list : (y : ℕ) → w.conclusion ≡ Literals y → Ruled d w (asks_for r (conclusion_asked r asked)) false
+      fluent_not_list y e =
           record {
-            holds = λ l stands. sym (asks_as (knows_whether f) is_fluent l stands ∙ fluent_other d w.conclusion w.fluent e l.Y stands.Y f);
+            holds = λ l stands. sym (asks_as (knows_whether f) is_fluent l stands ∙ fluent_other d y l.Y (concluded_as d w.conclusion (Literals y) l.Y e stands.Y) f);
           }
 
-      pub fluent_asked : w.fluent ≡ true → Ruled d w (asks_for r (conclusion_asked r asked)) (eqb (get_or d w.conclusion 0) f)
-      fluent_asked e =
+      pub fluent_asked : (g : ℕ) → w.conclusion ≡ Fluent g → Ruled d w (asks_for r (conclusion_asked r asked)) (eqb f g)
+      fluent_asked g e =
           record {
-            holds = λ l stands. sym (asks_as (knows_whether f) is_fluent l stands ∙ fluent_as d w.conclusion w.fluent e l.Y stands.Y f);
+            holds = λ l stands. sym (asks_as (knows_whether f) is_fluent l stands ∙ fluent_as d g l.Y (concluded_as d w.conclusion (Fluent g) l.Y e stands.Y) f);
           }
 
-pub goals_asked : (s t : List ℕ) (here : AtHand Flags s t) (d : List ℕ) (w : Spot) (asked : Asked) (begun : Bool) → Ruled d w (begins (request_in Flags s t)) begun → begun ≡ true → asked ≡ Goals → w.fluent ≡ false
-    → (goals : ℕ) → goals ≡ get_or t goals_slot 0 → (same : Bool) → same ≡ same_list (listed d w.conclusion) (listed s goals) → Ruled d w (asks_for (request_in Flags s t) (conclusion_asked (request_in Flags s t) asked)) same
-goals_asked s t here d w asked begun first begin is list goals at-goals same said = goals_list (request_in Flags s t) d w asked begun first begin is list (listed s goals) (goals_same s t here goals at-goals) same said
+pub goals_asked : (s t : List ℕ) (here : AtHand Flags s t) (d : List ℕ) (w : Spot) (asked : Option ℕ) (begun : Bool) → Ruled d w (begins (request_in Flags s t)) begun → begun ≡ true → asked ≡ None → (y : ℕ) → w.conclusion ≡ Literals y
+    → (goals : ℕ) → goals ≡ get_or t goals_slot 0 → (same : Bool) → same ≡ same_list (listed d y) (listed s goals) → Ruled d w (asks_for (request_in Flags s t) (conclusion_asked (request_in Flags s t) asked)) same
+goals_asked s t here d w asked begun first begin is y list goals at-goals same said = goals_list (request_in Flags s t) d w asked begun first begin is y list (listed s goals) (goals_same s t here goals at-goals) same said

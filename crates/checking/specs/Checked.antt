@@ -1,5 +1,5 @@
 -- What the checking of a derivation says of the lines that were read.
-use Rattle.std.specs.Prelude.{ℕ, zero, suc, ◌+◌, ◌*◌, ◌≤◌, ◌<◌, ◌≡◌, Bool, true, List, [], ◌∷◌, length, get_or, ltb}
+use Rattle.std.specs.Prelude.{ℕ, zero, suc, ◌+◌, ◌*◌, ◌≤◌, ◌<◌, ◌≡◌, Bool, true, List, [], ◌∷◌, length, get_or, ltb, Option, Some, None}
 use Rattle.meaning.specs.declared.Layout.{Layout}
 use Rattle.meaning.specs.Tests.{fails, pick, each_of}
 use Rattle.meaning.specs.Limits
@@ -8,6 +8,8 @@ use Rattle.meaning.specs.Literals.{among}
 use Rattle.meaning.specs.Requests.{Table, done}
 use Rattle.meaning.specs.Reading.{Got, got, fault}
 use Rattle.meaning.specs.Derivations.{knows, Line, Derivation, read_derivation, follows, citations_of, a_rule, cited_by}
+use Rattle.parsing.specs.declared.faults.Refusal.{Refusal}
+use Rattle.parsing.specs.Faults.{number_of}
 use Rattle.derivation.specs.Derived.{LinesHere}
 use Rattle.derivation.specs.DerivationRead.{plan_ends_slot}
 use Rattle.comparing.specs.declared.spots.Spot.{Spot}
@@ -71,3 +73,8 @@ refused_by layout t lines i l =
     pick (fails (each_of (λ (k : ℕ). ltb k i) l.cites)) (λ _. Limits.not_earlier) λ _.
     pick (fails (follows format t (cited_by lines l) l)) (λ _. Limits.does_not_follow) λ _.
     0
+
+-- The number of what refuses a line, and 0 where nothing does.
+abbrev pub number_or_none : Option Refusal → ℕ
+number_or_none None = 0
+number_or_none (Some refusal) = number_of refusal

@@ -2,7 +2,6 @@
 
 #![tactic(auto)]
 
-pub mod refusal_numbers; // what refuses a line or the closing list
 pub mod each_line; // the lines in order
 pub mod question; // the question, by the last line or by the closing list
 pub mod check; // a derivation for a settled request

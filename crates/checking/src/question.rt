@@ -1,183 +1,153 @@
-ghost use Rattle.std.specs.Prelude.{◌≡◌, ◌+◌, ◌*◌, ◌≤◌, ◌<◌, length, get_or};
+ghost use Rattle.std.specs.Prelude.{◌+◌, ◌*◌, ◌≤◌, ◌<◌, length, get_or};
 ghost use Rattle.meaning.specs.Limits.{format};
 ghost use Rattle.meaning.specs.declared.Layout.TheVariants.{Closing};
 ghost use Rattle.meaning.specs.Derivations.{asks_for};
 ghost use Rattle.reading.specs.Listed.{ListHere};
 ghost use Rattle.steps.specs.Held.{request_in};
-ghost use Rattle.steps.specs.AtHand.{AtHand};
 ghost use Rattle.comparing.specs.RuleAnswers.{SomeStands, SomeLines, Ruled};
 ghost use Rattle.checking.specs.Asked.{conclusion_asked, begins, Names, SomeDerivation, EntriesChecked, ClosingChecked, EndChecked};
 ghost use Rattle.meaning.specs.declared.Form.TheVariants.{Flags};
 
-use super::refusal_numbers;
 use comparing::parts::same_lists;
 use comparing::plans::same_plans;
-use comparing::spots::{Spot, spot_of};
+use comparing::spots::{Concludes, Spot, spot_of};
 use derivation::derivations;
 use derivation::derivations::Places;
 use derivation::derived::place_of;
 use finding::branches::sequence_of;
 use meaning::{Form, Layout};
 use parsing::bytes::{two, wide};
-use parsing::lists::Passed;
+use parsing::faults::{Fault, Refusal};
+use parsing::shapes::OfFlags;
 use reading::notes;
-use reading::notes::{Notes, get};
-
-// What a line is asked to conclude: the goals of the request, or that a fluent is known whether.
-#[derive(Clone, Copy)]
-pub enum Asked {
-    Goals,
-    Fluent(u8),
-}
+use reading::notes::get;
+use steps::request::Request;
 
 // The line's X is the initial facts, and its plan is that of the request.
-fn from_the_facts(s: &[u8], t: &Notes, d: &[u8], l: Spot) -> bool
-    requires at_hand { AtHand Flags s.now t.now }
-    requires some_stands { SomeStands d.now l }
-    ensures { Ruled d.now l (begins (request_in Flags s.now t.now)) result }
+fn from_the_facts(r: &Request<OfFlags>, d: &[u8], l: Spot) -> bool
+    requires { SomeStands d.now l }
+    ensures { Ruled d.now l (begins (request_in Flags r.now.bytes.now r.now.notes.now)) result }
 {
-    let p = l.line;
-    let starts = same_lists(d, p, s, 2);
-    if starts {
-        let plan = sequence_of(Form::Flags, d, p);
-        let e = l.end;
-        let asked = get(t, notes::PLAN);
-        let goals = get(t, notes::GOALS);
-        return same_plans(d, plan, e, s, asked, goals);
-    }
-    false
+    let plan = sequence_of(Form::Flags, d, l.line);
+    same_lists(d, l.line, r.bytes, 2)
+        && same_plans(
+            d,
+            plan,
+            l.end,
+            r.bytes,
+            get(r.notes, notes::PLAN),
+            get(r.notes, notes::GOALS),
+        )
 }
 
-// The line is the question for what is asked: the initial facts, the plan, and that conclusion.
-fn asks(s: &[u8], t: &Notes, d: &[u8], l: Spot, asked: Asked) -> bool
-    requires at_hand { AtHand Flags s.now t.now }
-    requires some_stands { SomeStands d.now l }
-    ensures { Ruled d.now l (asks_for (request_in Flags s.now t.now) (conclusion_asked (request_in Flags s.now t.now) asked)) result }
+// The line is the question: the initial facts, the plan, and as its conclusion that the fluent is known whether or, where none is asked for, the
+// goals.
+fn asks(r: &Request<OfFlags>, d: &[u8], l: Spot, asked: Option<u8>) -> bool
+    requires { SomeStands d.now l }
+    ensures { Ruled d.now l (asks_for (request_in Flags r.now.bytes.now r.now.notes.now) (conclusion_asked (request_in Flags r.now.bytes.now r.now.notes.now) asked)) result }
 {
-    let starts = from_the_facts(s, t, d, l);
-    if starts {
-        let y = l.conclusion;
-        match asked {
-            Asked::Goals => {
-                if l.fluent {
-                    return false;
-                }
-                let goals = get(t, notes::GOALS);
-                return same_lists(d, y, s, goals);
-            }
-            Asked::Fluent(f) => {
-                if l.fluent {
-                    return d[y] == f;
-                }
-                return false;
-            }
-        }
+    if !from_the_facts(r, d, l) {
+        return false;
     }
-    false
+    match (asked, l.conclusion) {
+        (None, Concludes::Literals(at)) => same_lists(d, at, r.bytes, get(r.notes, notes::GOALS)),
+        (Some(f), Concludes::Fluent(g)) => f == g,
+        _ => false,
+    }
 }
 
-// The two-byte number at `at` is that of a line, and this is the question for what is asked.
+// The two-byte number at `at` is that of a line, and this is the question.
 fn names(
-    s: &[u8],
-    t: &Notes,
+    r: &Request<OfFlags>,
     d: &[u8],
     places: &Places,
     lines: usize,
     at: usize,
-    asked: Asked,
+    asked: Option<u8>,
 ) -> bool
-    requires at_hand { AtHand Flags s.now t.now }
     requires some_lines { SomeLines Closing d.now places.now lines }
     requires at_in_bounds { at + 1 < length d.now }
-    ensures { Names (request_in Flags s.now t.now) d.now places.now lines at asked result }
+    ensures { Names (request_in Flags r.now.bytes.now r.now.notes.now) d.now places.now lines at asked result }
 {
-    let second = at + 1;
-    let number = two(d[at], d[second]);
-    if number < lines {
-        let l = spot_of(Layout::Closing, d, places, lines, number);
-        return asks(s, t, d, l, asked);
-    }
-    false
+    let number = two(d[at], d[at + 1]);
+    number < lines
+        && asks(
+            r,
+            d,
+            spot_of(Layout::Closing, d, places, lines, number),
+            asked,
+        )
 }
 
 // Each entry of the whether list at `whether` is asked of the line that is named by the next number, the first of which is at `first`.
 fn check_fluents(
-    s: &[u8],
-    t: &Notes,
+    r: &Request<OfFlags>,
     d: &[u8],
     places: &Places,
     lines: usize,
     whether: usize,
     first: usize,
-) -> Passed
-    requires at_hand { AtHand Flags s.now t.now }
+) -> Result<usize, Fault>
     requires some_lines { SomeLines Closing d.now places.now lines }
-    requires list_here { ListHere format.fluents s.now whether }
-    requires whether_in_bounds { first + 2 * get_or s.now whether 0 ≤ length d.now }
-    ensures { EntriesChecked s.now t.now d.now places.now lines whether first result }
+    requires list_here { ListHere format.fluents r.now.bytes.now whether }
+    requires whether_in_bounds { first + 2 * get_or r.now.bytes.now whether 0 ≤ length d.now }
+    ensures { EntriesChecked r.now.bytes.now r.now.notes.now d.now places.now lines whether first result }
 {
-    let end = whether + wide(s[whether]);
-    let mut i = whether;
-    let mut at = first;
-    while i < end {
-        i += 1;
-        let good = names(s, t, d, places, lines, at, Asked::Fluent(s[i]));
-        if good {
-            at += 2;
-            continue;
+    for k in 0..wide(r.bytes[whether]) {
+        let at = first + 2 * k;
+        if !names(r, d, places, lines, at, Some(r.bytes[whether + k + 1])) {
+            return Err(Refusal::ClosingNotRight.at(at));
         }
-        return Passed::Fault(refusal_numbers::CLOSING_NOT_RIGHT, at);
     }
-    Passed::To(0)
+    Ok(0)
 }
 
 // The closing list: its length, then the goals, then each whether entry.
-fn check_closing(s: &[u8], t: &Notes, d: &[u8], places: &Places, lines: usize) -> Passed
-    requires at_hand { AtHand Flags s.now t.now }
-    requires some_derivation { SomeDerivation Closing d.now places.now lines }
-    ensures { ClosingChecked (request_in Flags s.now t.now) d.now places.now lines result }
+fn check_closing(
+    r: &Request<OfFlags>,
+    d: &[u8],
+    places: &Places,
+    lines: usize,
+) -> Result<usize, Fault>
+    requires { SomeDerivation Closing d.now places.now lines }
+    ensures { ClosingChecked (request_in Flags r.now.bytes.now r.now.notes.now) d.now places.now lines result }
 {
-    let goals = get(t, notes::GOALS);
-    let whether = sequence_of(Form::Flags, s, goals);
-    let due = 1 + wide(s[whether]);
+    let goals = get(r.notes, notes::GOALS);
+    let whether = sequence_of(Form::Flags, r.bytes, goals);
+    let due = 1 + wide(r.bytes[whether]);
     let closing = place_of(places, derivations::LINES_END);
     let count = wide(d[closing]);
     if count != due {
-        return Passed::Fault(refusal_numbers::CLOSING_NOT_RIGHT, closing);
+        return Err(Refusal::ClosingNotRight.at(closing));
     }
     let first = closing + 1;
-    let good = names(s, t, d, places, lines, first, Asked::Goals);
-    if good {
-        let next = closing + 3;
-        return check_fluents(s, t, d, places, lines, whether, next);
+    if !names(r, d, places, lines, first, None) {
+        return Err(Refusal::ClosingNotRight.at(first));
     }
-    Passed::Fault(refusal_numbers::CLOSING_NOT_RIGHT, first)
+    check_fluents(r, d, places, lines, whether, closing + 3)
 }
 
 // The question, by the last line or by the closing list. Answered: the place 0.
 pub fn check_end(
     layout: Layout,
-    s: &[u8],
-    t: &Notes,
+    r: &Request<OfFlags>,
     d: &[u8],
     places: &Places,
     lines: usize,
-) -> Passed
-    requires at_hand { AtHand Flags s.now t.now }
+) -> Result<usize, Fault>
     requires some_derivation { SomeDerivation layout d.now places.now lines }
     requires le_lines { 1 ≤ lines }
-    ensures { EndChecked layout (request_in Flags s.now t.now) d.now places.now lines result }
+    ensures { EndChecked layout (request_in Flags r.now.bytes.now r.now.notes.now) d.now places.now lines result }
 {
     match layout {
         Layout::Plain => {
-            let last = lines - 1;
-            let l = spot_of(Layout::Plain, d, places, lines, last);
-            let asked = asks(s, t, d, l, Asked::Goals);
-            if asked {
-                return Passed::To(0);
+            let l = spot_of(Layout::Plain, d, places, lines, lines - 1);
+            if asks(r, d, l, None) {
+                Ok(0)
+            } else {
+                Err(Refusal::NotTheQuestion.at(l.line))
             }
-            Passed::Fault(refusal_numbers::NOT_THE_QUESTION, l.line)
         }
-        Layout::Closing => check_closing(s, t, d, places, lines),
+        Layout::Closing => check_closing(r, d, places, lines),
     }
 }

@@ -5,7 +5,6 @@ use native.Mathlib.Omega.{arith}
 use mathlib.Core.Path.{◌≡◌, refl, sym, ap, ap₂, subst}
 use mathlib.Core.List.{List, [], ◌∷◌, ◌++◌}
 use lib.ListN.{length, length-append, get_or}
-use Rattle.meaning.specs.Tests.{both}
 use Rattle.meaning.specs.Requests.{Sequence, done, item, act, branching, Branches, branch}
 use Rattle.reading.specs.Listed.{bytes_from, listed}
 use Rattle.finding.specs.Branches.{sequence_place}

@@ -1,24 +1,24 @@
 -- Lists against what a state knows: a list whose state is asked, and the literals of a state listed fluent by fluent. Assumes nothing.
 use Prim.Native.Nat.{ℕ, ◌+◌, ◌-◌, ◌*◌, ◌≤◌, ◌<◌}
-use native.Mathlib.Omega.{arith}
 use mathlib.Core.Path.{◌≡◌, sym, ◌∙◌, ap, fun_ext}
-use mathlib.Core.Bool.{Bool, false}
+use mathlib.Core.Bool.{Bool, true, false, not}
 use mathlib.Core.List.{List, ◌∷◌}
 use lib.ListN.{length, get_or, drop}
 use lib.Dec.{eqb}
-use mir.Syntax.{w64}
-use mir.Val.{Fits}
-use borrow.Author.Tests.{eqb-true, eqb-false, eq-eqb, ne_eqb}
+use denote.Ref.{Bor}
+use Rattle.std.proofs.Common.{Option, None, Some, MatchOption}
+use Rattle.std.specs.Option.{is_some}
+use Rattle.std.proofs.lemmas.Bool.{false≢true}
+use Rattle.std.proofs.lemmas.List.{nil_from_length}
+use borrow.Author.Tests.{eq-eqb, ne_eqb}
 use Rattle.meaning.specs.Tests.{both, each_of}
 use Rattle.meaning.specs.Limits.{format, all_literals}
 use Rattle.meaning.specs.Literals.{among, exclusive}
 use Rattle.meaning.specs.States.{State, known, state_of}
 use Rattle.meaning.specs.Derivations.{same_list, included, known_from, literals_of}
-use Rattle.meaning.proofs.TestLaws.{by-test}
 use Rattle.meaning.proofs.ToldLaws.{state_known}
 use Rattle.reading.specs.declared.marks.Test.TheVariants.{Known}
-use Rattle.reading.specs.Listed.{bytes_from, listed, ListHere, holds_as}
-use Rattle.reading.proofs.MarkLaws.{bytes_next, bytes_done}
+use Rattle.reading.specs.Listed.{listed, ListHere, holds_as}
 use Rattle.finding.proofs.PlanHere.{listed_clear}
 use Rattle.steps.specs.AtHand.{Marked}
 use Rattle.steps.proofs.KnownLists.{known_far, unmarked_step, marked_step}
@@ -31,52 +31,37 @@ within_is s p u q marks r here apart told is =
     is ∙ ap (λ (m : State). each_of (known m) (listed s p)) told ∙ ap (λ (test : ℕ → Bool). each_of test (listed s p)) asked
 
 -- THE LOOP over the fluents: the entries left against the literals left.
-pub list_ends : (s : List ℕ) (p x end : ℕ) → ListHere all_literals s p → x ≡ get_or s p 0 → end ≡ p + x → end < length s
-list_ends s p x end here byte is = let ends = here.ends in omega (arith, ends, byte, is)
+pub known_starts : (marks : State) (ls items rest : List ℕ) → items ≡ ls → rest ≡ items → same_list ls (literals_of marks) ≡ same_list rest (known_from marks 0 (drop 0 marks))
+unfolding literals_of
+known_starts marks ls items rest are from = ap (λ (xs : List ℕ). same_list xs (known_from marks 0 marks)) (sym (from ∙ are))
 
-pub known_starts : (marks : State) (s : List ℕ) (p x end : ℕ) → x ≡ get_or s p 0 → end ≡ p + x
-    → same_list (listed s p) (literals_of marks) ≡ same_list (bytes_from s (p + 1) (end - p)) (known_from marks 0 (drop 0 marks))
-unfolding literals_of listed
-known_starts marks s p x end byte is =
-    let left : get_or s p 0 ≡ end - p = omega (arith, byte, is) in
-    ap (λ (k : ℕ). same_list (bytes_from s (p + 1) k) (known_from marks 0 marks)) left
+module _ (marks : State) (marked : Marked marks) (f : ℕ) (whole : Bool) (rest : List ℕ) (so_far : whole ≡ same_list rest (known_from marks f (drop f marks))) where
+  module _ (near : f < format.fluents) where
+    pub known_none : get_or marks f 0 ≡ 0 → whole ≡ same_list rest (known_from marks (f + 1) (drop (f + 1) marks))
+    known_none none = so_far ∙ ap (same_list rest) (unmarked_step marks marked f near none)
 
-module _ (marks : State) (marked : Marked marks) (f mark : ℕ) (at : mark ≡ get_or marks f 0) where
-  mark_small : mark ≤ 2
-  mark_small = let most = marked.small f in omega (arith, at, most)
-
-  pub literal_fits : f < format.fluents → Fits w64 (2 * f + mark)
-  literal_fits near = let most = mark_small in record { fits = omega (arith, near, most) }
-
-  module _ (near : f < format.fluents) (whole : Bool) (s : List ℕ) (end i : ℕ) (so_far : whole ≡ same_list (bytes_from s (i + 1) (end - i)) (known_from marks f (drop f marks))) where
-    pub known_none : mark ≡ 0 → whole ≡ same_list (bytes_from s (i + 1) (end - i)) (known_from marks (f + 1) (drop (f + 1) marks))
-    known_none none = so_far ∙ ap (same_list (bytes_from s (i + 1) (end - i))) (unmarked_step marks marked f near (sym at ∙ none))
-
-    module _ (some : mark ≡ 0 → ⊥) where
-      literal_is : known_from marks f (drop f marks) ≡ (2 * f + mark - 1) ∷ known_from marks (f + 1) (drop (f + 1) marks)
-      literal_is = rw at (marked_step marks marked f near (λ e. some (at ∙ e)))
-
-      pub known_short : end ≤ i → false ≡ whole
+    module _ (some : get_or marks f 0 ≡ 0 → ⊥) where
+      pub known_short : length rest ≡ 0 → false ≡ whole
       unfolding same_list
-      known_short done = sym (so_far ∙ rw (bytes_done s end i done, literal_is))
+      known_short none = sym (so_far ∙ rw (nil_from_length rest none, marked_step marks marked f near some))
 
-      module _ (more : i < end) (x : ℕ) (entry : x ≡ get_or s (i + 1) 0) where
-        first_is : whole ≡ both (eqb x (2 * f + mark - 1)) (same_list (bytes_from s (i + 1 + 1) (end - (i + 1))) (known_from marks (f + 1) (drop (f + 1) marks)))
+      module _ (mark : ℕ) (at : mark ≡ get_or marks f 0) (entry x : ℕ) (others : List ℕ) (taken : rest ≡ entry ∷ others) (is : x ≡ entry) where
+        first_is : whole ≡ both (eqb x (2 * f + mark - 1)) (same_list others (known_from marks (f + 1) (drop (f + 1) marks)))
         unfolding same_list
-        first_is = so_far ∙ rw (bytes_next s end i more, literal_is, entry)
+        first_is = so_far ∙ rw (taken, marked_step marks marked f near some, sym at, sym is)
 
         pub known_differs : (x ≡ 2 * f + mark - 1 → ⊥) → false ≡ whole
         unfolding both
         known_differs d = sym (first_is ∙ rw (ne_eqb _ _ d))
 
-        pub known_same : x ≡ 2 * f + mark - 1 → whole ≡ same_list (bytes_from s (i + 1 + 1) (end - (i + 1))) (known_from marks (f + 1) (drop (f + 1) marks))
+        pub known_same : x ≡ 2 * f + mark - 1 → whole ≡ same_list others (known_from marks (f + 1) (drop (f + 1) marks))
         unfolding both
         known_same e = first_is ∙ rw (eq-eqb _ _ e)
 
-pub known_done : (marks : State) → Marked marks → (f : ℕ) (whole : Bool) (s : List ℕ) (end i : ℕ) → whole ≡ same_list (bytes_from s (i + 1) (end - i)) (known_from marks f (drop f marks))
-    → i ≤ end → format.fluents ≤ f → eqb i end ≡ whole
-unfolding same_list
-known_done marks marked f whole s end i so_far most far =
-    by-test (eqb i end)
-    (λ t. let same = eqb-true i end t in t ∙ sym (so_far ∙ rw (bytes_done s end i (omega (arith, same)), known_far marks marked f far)))
-    (λ u. let other = eqb-false i end u in u ∙ sym (so_far ∙ rw (bytes_next s end i (omega (arith, other, most)), known_far marks marked f far)))
+  pub known_done : format.fluents ≤ f → (next : Option (Bor ℕ)) (r : Bool) → is_some next ≡ not r → (A : Type 0) (others : List ℕ)
+      → MatchOption next ((length rest ≡ 0) × A) (λ x. rest ≡ x.now ∷ others) → r ≡ whole
+  unfolding same_list
+  known_done far None true is A others turn = sym (so_far ∙ rw (nil_from_length rest turn.0, known_far marks marked f far))
+  known_done far None false is A others turn = absurd (false≢true is)
+  known_done far (Some x) true is A others turn = absurd (false≢true (sym is))
+  known_done far (Some x) false is A others turn = sym (so_far ∙ rw (turn, known_far marks marked f far))

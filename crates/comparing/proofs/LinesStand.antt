@@ -3,7 +3,6 @@
 use Prim.Native.Nat.{ℕ, zero, suc, ◌+◌, ◌*◌, ◌≤◌, ◌<◌}
 use native.Mathlib.Omega.{arith}
 use mathlib.Core.Path.{◌≡◌, refl, sym, ◌∙◌, ap, subst}
-use mathlib.Core.Bool.{true, false}
 use mathlib.Core.List.{List, [], ◌∷◌}
 use lib.ListN.{length, get_or}
 use mir.Syntax.{w8}
@@ -20,8 +19,8 @@ use Rattle.meaning.specs.Derivations.{Conclusion, Line, Derivation, Concluded, c
 use Rattle.meaning.proofs.TestLaws.{by-test, clash, either_left, either_right, pick-cases}
 use Rattle.meaning.proofs.SettledLaws.{got_same, refuse_got}
 use Rattle.meaning.proofs.RangeLaws.{not_refused, after_got, count_within, repeated_length}
-use Rattle.parsing.specs.declared.lists.Passed.{Passed}
-use Rattle.parsing.specs.declared.lists.Passed.TheVariants.{To}
+use Rattle.std.specs.Prelude.{Ok}
+use Rattle.parsing.specs.Read.{Passed}
 use Rattle.reading.specs.Noted.{noting, outcome}
 use Rattle.reading.specs.Planned.{bytes_of}
 use Rattle.derivation.specs.DerivationRead.{plan_end, derivation_noted, settled_derivation, plan_ends_slot, places_slots}
@@ -33,6 +32,8 @@ use Rattle.finding.proofs.PlanHere.{listed_length}
 use Rattle.finding.proofs.WrittenLaws.{two_is}
 use Rattle.derivation.proofs.DerivationLaws.{plan_ends}
 use Rattle.derivation.proofs.DerivedLaws.{derived_here}
+use Rattle.parsing.specs.RuleKinds.{rule_of}
+use Rattle.comparing.specs.declared.spots.Concludes.TheVariants.{Literals, Fluent}
 use Rattle.comparing.specs.declared.spots.Spot.{Spot}
 use Rattle.comparing.specs.Stands.{after_list, ListStands, PlanStands, NumbersStand, ConclusionStands, Stands, spot_at, LinesStand, ClosingStands, Derived, SomeDerived}
 use Rattle.comparing.proofs.CodedReads.{plan_coded}
@@ -86,23 +87,23 @@ module _ (n m : ℕ) (d : List ℕ) where
 
   -- The conclusion and the rule, up to t.
   record ConcludedStands (w : Spot) (x : Concluded) (t : ℕ) : Type 0 where
-    Y : ConclusionStands d w.fluent w.conclusion x.Y
-    rule : w.rule ≡ x.rule
+    Y : ConclusionStands d w.conclusion x.Y
+    rule : w.rule ≡ rule_of x.rule
     after : t ≡ w.cites
 
-  list_concludes : n ≤ format.fluents → (y : ℕ) (Y : Conclusion) (q : ℕ) → list_concluded format n d y ≡ got Y q → ConclusionStands d false y Y × (q ≡ after_list d y)
+  list_concludes : n ≤ format.fluents → (y : ℕ) (Y : Conclusion) (q : ℕ) → list_concluded format n d y ≡ got Y q → ConclusionStands d (Literals y) Y × (q ≡ after_list d y)
   unfolding list_concluded ConclusionStands
   list_concludes few y Y q e =
       after_got (list_at literals n format.listed d y) _ e λ xs i list is.
-      (subst (ConclusionStands d false y) (got_same is) (refl, list_stands few y xs i list), sym (got_place is) ∙ list_after few y xs i list)
+      (subst (ConclusionStands d (Literals y)) (got_same is) (list_stands few y xs i list), sym (got_place is) ∙ list_after few y xs i list)
 
-  fluent_concludes : n ≤ format.fluents → (y : ℕ) (Y : Conclusion) (q : ℕ) → fluent_concluded format n d y ≡ got Y q → ConclusionStands d true y Y × (q ≡ y + 1)
+  fluent_concludes : n ≤ format.fluents → (y : ℕ) (Y : Conclusion) (q : ℕ) → fluent_concluded format n d y ≡ got Y q → ConclusionStands d (Fluent (get_or d y 0)) Y × (q ≡ y + 1)
   unfolding fluent_concluded ConclusionStands
   fluent_concludes few y Y q e =
       after_got (below_at n d y) _ e λ f i below is.
       let number = number_got n d y f i below in
       let less = number.3 in
-      (subst (ConclusionStands d true y) (got_same is) (refl, number.0, number.1, omega arith), sym (got_place is) ∙ sym number.2)
+      (subst (ConclusionStands d (Fluent (get_or d y 0))) (got_same is) (number.1, omega arith), sym (got_place is) ∙ sym number.2)
 
   concluded_stands : n ≤ format.fluents → (layout : Layout) (p e : ℕ) (x : Concluded) (t : ℕ) → concluded_at format n d layout e ≡ got x t → ConcludedStands (spot_at layout d p e) x t
   unfolding concluded_at conclusion_at spot_at
@@ -113,7 +114,7 @@ module _ (n m : ℕ) (d : List ℕ) where
       let second = byte_got d q rule u byte in
       let on = first.1 in let next = second.2 in let end = got_place is2 in
       subst (λ (y : Concluded). ConcludedStands (spot_at Plain d p e) y t) (got_same is2)
-      (record { Y = first.0; rule = ap (λ (j : ℕ). get_or d j 0) (sym on) ∙ second.1; after = omega (arith, on, next, end) })
+      (record { Y = first.0; rule = ap rule_of (ap (λ (j : ℕ). get_or d j 0) (sym on) ∙ second.1); after = omega (arith, on, next, end) })
   concluded_stands few Closing p e x t is =
       after_got (byte_at d e) _ is λ rule q byte is1.
       after_got (conclusion_at format n d rule q) _ is1 λ Y u conclusion is2.
@@ -127,11 +128,11 @@ module _ (n m : ℕ) (d : List ℕ) where
       let second = fluent_concludes few (e + 1) Y u (subst (λ (j : ℕ). fluent_concluded format n d j ≡ got Y u) at reads) in
       let on = second.1 in
       subst (λ (w : Spot). ConcludedStands w (record { rule = rule; Y = Y }) t) (sym (spot_fluent d p e (kind ∙ yes)))
-      (record { Y = second.0; rule = first.1; after = omega (arith, on, end) }))
+      (record { Y = second.0; rule = ap rule_of first.1; after = omega (arith, on, end) }))
       (λ no reads.
       let second = list_concludes few (e + 1) Y u (subst (λ (j : ℕ). list_concluded format n d j ≡ got Y u) at reads) in
       subst (λ (w : Spot). ConcludedStands w (record { rule = rule; Y = Y }) t) (sym (spot_list d p e (kind ∙ no)))
-      (record { Y = second.0; rule = first.1; after = sym end ∙ second.1 })))
+      (record { Y = second.0; rule = ap rule_of first.1; after = sym end ∙ second.1 })))
 
   -- A line starts with its list X and its plan, in either layout.
   pub record LineParts (p : ℕ) (l : Line) : Type 0 where
@@ -296,12 +297,12 @@ module _ (n m : ℕ) (d : List ℕ) where
         closing = closing_stands layout q ks i closes;
       })
 
-  read_as : (layout : Layout) (t places : List ℕ) (x : Derivation) (e : ℕ) → read_derivation format n m d layout ≡ got x e → places ≡ derivation_noted x t → (r : Passed) → r ≡ To e
+  read_as : (layout : Layout) (t places : List ℕ) (x : Derivation) (e : ℕ) → read_derivation format n m d layout ≡ got x e → places ≡ derivation_noted x t → (r : Passed) → r ≡ Ok e
       → outcome r places ≡ noting derivation_noted (read_derivation format n m d layout) t
   unfolding outcome noting next
   read_as layout t places x e whole put r is = rw (is, whole, put) refl
 
-  pub derived_whole : (layout : Layout) (t places : List ℕ) (r : Passed) → outcome r places ≡ noting derivation_noted (settled_derivation layout n m d) t → (e : ℕ) → r ≡ To e → length t ≡ places_slots → SomeDerived layout n m d places e
+  pub derived_whole : (layout : Layout) (t places : List ℕ) (r : Passed) → outcome r places ≡ noting derivation_noted (settled_derivation layout n m d) t → (e : ℕ) → r ≡ Ok e → length t ≡ places_slots → SomeDerived layout n m d places e
   unfolding settled_derivation
   derived_whole layout t places r read e is long =
       let w = noting_got derivation_noted (settled_derivation layout n m d) r t places read e is in

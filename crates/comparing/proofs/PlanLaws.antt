@@ -2,10 +2,11 @@
 use Prim.Native.Nat.{ℕ, ◌+◌, ◌-◌, ◌*◌}
 use native.Mathlib.Omega.{arith}
 use mathlib.Core.Path.{◌≡◌, sym, ◌∙◌, ap}
-use mathlib.Core.Bool.{Bool, false}
+use mathlib.Core.Bool.{Bool}
 use mathlib.Core.List.{List, ◌++◌}
 use lib.ListN.{get_or, take, drop}
-use borrow.Author.Tests.{eq-eqb}
+use lib.Dec.{eqb}
+use borrow.Author.Tests.{eq-eqb, ne_eqb}
 use Rattle.meaning.specs.Tests.{both}
 use Rattle.meaning.specs.Requests.{Sequence}
 use Rattle.meaning.specs.Derivations.{same_list, same_plan, join}
@@ -35,11 +36,12 @@ items_part d a b count c w =
 
 -- TWO PLANS, with their counts.
 module _ (d : List ℕ) (q e : ℕ) (u : List ℕ) (r f one other : ℕ) (first : one ≡ get_or d q 0 * 256 + get_or d (q + 1) 0) (second : other ≡ get_or u r 0 * 256 + get_or u (r + 1) 0) where
-  pub plans_other : (one ≡ other → ⊥) → SamePlans d q e u r f false
+  pub plans_other : (one ≡ other → ⊥) → SamePlans d q e u r f (eqb one other)
   plans_other differ =
       record {
         holds = λ b c w v.
-            by-test (same_plan b c) (λ t. absurd (differ (first ∙ w.count ∙ same_own b c t ∙ sym v.count ∙ sym second))) sym;
+            ne_eqb one other differ
+            ∙ by-test (same_plan b c) (λ t. absurd (differ (first ∙ w.count ∙ same_own b c t ∙ sym v.count ∙ sym second))) sym;
       }
 
   pub plans_parts : (answer : Bool) → one ≡ other → answer ≡ same_list (take (e - (q + 2)) (drop (q + 2) d)) (take (f - (r + 2)) (drop (r + 2) u)) → SamePlans d q e u r f answer
@@ -55,11 +57,12 @@ module _ (d : List ℕ) (q e : ℕ) (u : List ℕ) (r f one other : ℕ) (first 
 
 -- A PLAN against items of two parts, with its count.
 module _ (d : List ℕ) (q e a b count g h more x : ℕ) (read : x ≡ get_or d q 0 * 256 + get_or d (q + 1) 0) where
-  pub joined_other : (x ≡ count + more → ⊥) → JoinedPlans d q e a b count g h more false
+  pub joined_other : (x ≡ count + more → ⊥) → JoinedPlans d q e a b count g h more (eqb x (count + more))
   joined_other differ =
       record {
         holds = λ c first rest w v z.
-            by-test (same_plan c (join first rest))
+            ne_eqb x (count + more) differ
+            ∙ by-test (same_plan c (join first rest))
             (λ t.
             let counted = w.count in let own = same_own c (join first rest) t in let sum = own_join first rest in
             let one = v.counted in let two = z.counted in

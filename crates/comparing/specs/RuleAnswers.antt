@@ -44,10 +44,10 @@ pub record JoinedPlans (d : List ℕ) (q e a b count g h more : ℕ) (answer : B
 -- CONCLUSIONS, lists or fluents.
 pub record SomeConcluded (d : List ℕ) (w : Spot) : Type 0 where
   pub conclusion : Conclusion
-  pub stands : ConclusionStands d w.fluent w.conclusion conclusion
+  pub stands : ConclusionStands d w.conclusion conclusion
 
 pub record SameConclusions (d : List ℕ) (one other : Spot) (answer : Bool) : Type 0 where
-  pub holds : (Y Z : Conclusion) → ConclusionStands d one.fluent one.conclusion Y → ConclusionStands d other.fluent other.conclusion Z → answer ≡ same_conclusion Y Z
+  pub holds : (Y Z : Conclusion) → ConclusionStands d one.conclusion Y → ConclusionStands d other.conclusion Z → answer ≡ same_conclusion Y Z
 
 -- LINES. One stands at p, and its plan ends at e.
 pub record SomeAt (layout : Layout) (d : List ℕ) (p e : ℕ) : Type 0 where

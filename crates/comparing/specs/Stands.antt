@@ -1,5 +1,5 @@
 -- What it means that the lines of a derivation stand in the input d.
-use Rattle.std.specs.Prelude.{ℕ, ◌+◌, ◌*◌, ◌≤◌, ◌<◌, ◌≡◌, Bool, true, false, List, [], ◌∷◌, length, get_or}
+use Rattle.std.specs.Prelude.{ℕ, ◌+◌, ◌*◌, ◌≤◌, ◌<◌, ◌≡◌, false, List, [], ◌∷◌, length, get_or}
 use Rattle.meaning.specs.declared.Layout.{Layout}
 use Rattle.meaning.specs.declared.Layout.TheVariants.{Plain, Closing}
 use Rattle.meaning.specs.Tests.{pick}
@@ -15,6 +15,9 @@ use Rattle.reading.specs.Planned.{bytes_of}
 use Rattle.finding.specs.PlansHeld.{own_items}
 use Rattle.derivation.specs.DerivationRead.{settled_derivation, plan_ends_slot, lines_end}
 use Rattle.derivation.specs.Derived.{LinesHere}
+use Rattle.parsing.specs.RuleKinds.{rule_of}
+use Rattle.comparing.specs.declared.spots.Concludes.{Concludes}
+use Rattle.comparing.specs.declared.spots.Concludes.TheVariants.{Literals, Fluent}
 use Rattle.comparing.specs.declared.spots.Spot.{Spot}
 use Rattle.comparing.specs.Coded.{coded, Tellable}
 
@@ -44,18 +47,20 @@ unfoldable pub NumbersStand : List ℕ → ℕ → List ℕ → Type 0
 NumbersStand d p [] = Unit {0}
 NumbersStand d p (k ∷ ks) = (p + 1 < length d) × (get_or d p 0 * 256 + get_or d (p + 1) 0 ≡ k) × NumbersStand d (p + 2) ks
 
--- A conclusion at y: a list, or a fluent.
-unfoldable pub ConclusionStands : List ℕ → (fluent : Bool) (y : ℕ) → Conclusion → Type 0
-ConclusionStands d fluent y (knows Y) = (fluent ≡ false) × ListStands d y Y
-ConclusionStands d fluent y (knows_whether f) = (fluent ≡ true) × (y < length d) × (get_or d y 0 ≡ f) × (f < format.fluents)
+-- A conclusion: a list that stands at its place, or a fluent.
+unfoldable pub ConclusionStands : List ℕ → Concludes → Conclusion → Type 0
+ConclusionStands d (Literals y) (knows Y) = ListStands d y Y
+ConclusionStands d (Literals y) (knows_whether f) = ⊥
+ConclusionStands d (Fluent g) (knows Y) = ⊥
+ConclusionStands d (Fluent g) (knows_whether f) = (g ≡ f) × (f < format.fluents)
 
 -- A line whose parts stand where the spot says.
 pub record Stands (d : List ℕ) (w : Spot) (l : Line) : Type 0 where
   pub place : l.place ≡ w.line
   pub X : ListStands d w.line l.X
   pub plan : PlanStands d (after_list d w.line) w.end l.c
-  pub Y : ConclusionStands d w.fluent w.conclusion l.Y
-  pub rule : w.rule ≡ l.rule
+  pub Y : ConclusionStands d w.conclusion l.Y
+  pub rule : w.rule ≡ rule_of l.rule
   pub counted : w.cites < length d
   pub cited : get_or d w.cites 0 ≡ length l.cites
   pub most : length l.cites ≤ format.citations
@@ -63,11 +68,15 @@ pub record Stands (d : List ℕ) (w : Spot) (l : Line) : Type 0 where
 
 -- The parts of the line at p whose plan ends at e, by the layout (FORMAT 10.3, 17.4 to 17.6).
 unfoldable pub spot_at : Layout → List ℕ → (p e : ℕ) → Spot
-spot_at Plain d p e = record { line = p; end = e; conclusion = e; cites = after_list d e + 1; rule = get_or d (after_list d e) 0; fluent = false }
+spot_at Plain d p e = record { line = p; end = e; conclusion = Literals e; cites = after_list d e + 1; rule = rule_of (get_or d (after_list d e) 0) }
 spot_at Closing d p e =
     pick (concludes_fluent (get_or d e 0))
-    (λ _. record { line = p; end = e; conclusion = e + 1; cites = e + 2; rule = get_or d e 0; fluent = true })
-    (λ _. record { line = p; end = e; conclusion = e + 1; cites = after_list d (e + 1); rule = get_or d e 0; fluent = false })
+    (λ _. record { line = p; end = e; conclusion = Fluent (get_or d (e + 1) 0); cites = e + 2; rule = rule_of (get_or d e 0) })
+    (λ _. record { line = p; end = e; conclusion = Literals (e + 1); cites = after_list d (e + 1); rule = rule_of (get_or d e 0) })
+
+-- The number that citation k of the line at w says.
+abbrev pub number_cited : List ℕ → Spot → ℕ → ℕ
+number_cited d w k = get_or d (w.cites + 1 + 2 * k) 0 * 256 + get_or d (w.cites + 1 + 2 * k + 1) 0
 
 -- Every line stands where its slots say.
 pub record LinesStand (layout : Layout) (d places : List ℕ) (lines : List Line) : Type 0 where

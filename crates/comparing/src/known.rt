@@ -7,6 +7,7 @@ ghost use Rattle.steps.specs.AtHand.{Marked};
 
 use parsing::bytes::wide;
 use parsing::limits;
+use reading::listed::listed;
 use reading::marks::{Marks, Test, each_holds, state_of};
 
 // Every literal of the list at p is in the list at q, in which none stands beside its complement.
@@ -26,24 +27,17 @@ pub fn lists_known(marks: &Marks, s: &[u8], p: usize) -> bool
     requires list_here { ListHere all_literals s.now p }
     ensures { result ≡ same_list (listed s.now p) (literals_of marks.now) }
 {
-    let end = p + wide(s[p]);
-    let mut i = p;
-    let mut f = 0;
-    while f < limits::FLUENTS {
-        let mark = wide(marks[f]);
-        let twice = 2 * f;
-        f += 1;
-        if mark == 0 {
+    let mut entries = listed(s, p).iter();
+    for (f, mark) in marks.iter().enumerate() {
+        if *mark == limits::UNKNOWN_MARK {
             continue;
         }
-        if end <= i {
+        let Some(entry) = entries.next() else {
             return false;
-        }
-        i += 1;
-        let l = twice + mark - 1;
-        if wide(s[i]) != l {
+        };
+        if wide(*entry) != 2 * f + wide(*mark) - 1 {
             return false;
         }
     }
-    i == end
+    entries.next().is_none()
 }

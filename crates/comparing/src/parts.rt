@@ -9,32 +9,14 @@ use parsing::bytes::wide;
 pub fn same_part(one: &[u8], other: &[u8]) -> bool
     ensures { result ≡ same_list one.now other.now }
 {
-    if one.len() != other.len() {
-        return false;
-    }
-    let mut i = 0;
-    while i < one.len() {
-        if one[i] != other[i] {
-            return false;
-        }
-        i += 1;
-    }
-    true
+    one == other
 }
 
 // A part holds the bytes of two parts, one after the other.
 pub fn same_joined(whole: &[u8], first: &[u8], rest: &[u8]) -> bool
     ensures { result ≡ same_list whole.now (first.now ++ rest.now) }
 {
-    let middle = first.len();
-    if whole.len() < middle {
-        return false;
-    }
-    let begins = same_part(&whole[..middle], first);
-    if begins {
-        return same_part(&whole[middle..], rest);
-    }
-    false
+    whole.strip_prefix(first) == Some(rest)
 }
 
 // The lists at p and at q have the same entries.
@@ -43,9 +25,5 @@ pub fn same_lists(s: &[u8], p: usize, u: &[u8], q: usize) -> bool
     requires list_here_2 { ListHere all_literals u.now q }
     ensures { result ≡ same_list (listed s.now p) (listed u.now q) }
 {
-    let one = p + 1;
-    let other = q + 1;
-    let one_end = one + wide(s[p]);
-    let other_end = other + wide(u[q]);
-    same_part(&s[one..one_end], &u[other..other_end])
+    same_part(&s[p + 1..p + 1 + wide(s[p])], &u[q + 1..q + 1 + wide(u[q])])
 }

@@ -9,8 +9,7 @@ pub fn count_of(d: &[u8], q: usize) -> usize
     requires { q + 1 < length d.now }
     ensures { result ≡ get_or d.now q 0 * 256 + get_or d.now (q + 1) 0 }
 {
-    let second = q + 1;
-    two(d[q], d[second])
+    two(d[q], d[q + 1])
 }
 
 // The plan with its count at q, up to e, is the one with its count at r, up to f.
@@ -19,14 +18,7 @@ pub fn same_plans(d: &[u8], q: usize, e: usize, u: &[u8], r: usize, f: usize) ->
     requires some_plan_2 { SomePlan u.now r f }
     ensures { SamePlans d.now q e u.now r f result }
 {
-    let one = count_of(d, q);
-    let other = count_of(u, r);
-    if one != other {
-        return false;
-    }
-    let first = q + 2;
-    let second = r + 2;
-    same_part(&d[first..e], &u[second..f])
+    count_of(d, q) == count_of(u, r) && same_part(&d[q + 2..e], &u[r + 2..f])
 }
 
 // The plan with its count at q, up to e, is the items from a up to b joined with those from g up to h.
@@ -46,10 +38,5 @@ pub fn joined_plans(
     requires some_items_2 { SomeItems d.now g h more }
     ensures { JoinedPlans d.now q e a b count g h more result }
 {
-    let all = count + more;
-    if count_of(d, q) != all {
-        return false;
-    }
-    let first = q + 2;
-    same_joined(&d[first..e], &d[a..b], &d[g..h])
+    count_of(d, q) == count + more && same_joined(&d[q + 2..e], &d[a..b], &d[g..h])
 }

@@ -1,6 +1,6 @@
-ghost use Rattle.std.specs.Prelude.{◌≡◌, ◌+◌, ◌<◌, get_or};
+ghost use Rattle.std.specs.Prelude.{◌≡◌, ◌+◌, ◌*◌, ◌<◌, length, get_or};
 ghost use Rattle.derivation.specs.DerivationRead.{plan_ends_slot};
-ghost use Rattle.comparing.specs.Stands.{spot_at};
+ghost use Rattle.comparing.specs.Stands.{spot_at, number_cited};
 ghost use Rattle.comparing.specs.RuleAnswers.{SomeAt, SomeLines, SomeConcluded, SameConclusions};
 
 use super::parts::same_lists;
@@ -8,18 +8,25 @@ use derivation::derivations::{Places, gives_fluent};
 use derivation::derived::{end_of, place_of};
 use finding::branches::sequence_of;
 use meaning::{Form, Layout};
-use parsing::bytes::wide;
+use parsing::bytes::{two, wide};
+use parsing::rule_kinds::Rule;
 
-// Where the parts of a line stand: the line with its list X, the end of its plan, its conclusion, the count of its citations. And its
-// rule, and whether its conclusion is a fluent.
+// What a line concludes: the list of literals at a place, or a fluent.
+#[derive(Clone, Copy)]
+pub enum Concludes {
+    Literals(usize),
+    Fluent(u8),
+}
+
+// Where the parts of a line stand: the line with its list X, the end of its plan, the count of its citations. And its conclusion, and its rule, if
+// it has one.
 #[derive(Clone, Copy)]
 pub struct Spot {
     pub line: usize,
     pub end: usize,
-    pub conclusion: usize,
+    pub conclusion: Concludes,
     pub cites: usize,
-    pub rule: usize,
-    pub fluent: bool,
+    pub rule: Option<Rule>,
 }
 
 // The parts of the line at p whose plan ends at e: what is between the plan and the citations goes by the layout.
@@ -30,40 +37,30 @@ fn spot_at(layout: Layout, d: &[u8], p: usize, e: usize) -> Spot
     match layout {
         Layout::Plain => {
             let at = sequence_of(Form::Flags, d, e);
-            let rule = wide(d[at]);
-            let cites = at + 1;
             Spot {
                 line: p,
                 end: e,
-                conclusion: e,
-                cites: cites,
-                rule: rule,
-                fluent: false,
+                conclusion: Concludes::Literals(e),
+                cites: at + 1,
+                rule: Rule::of(wide(d[at])),
             }
         }
         Layout::Closing => {
-            let rule = wide(d[e]);
-            let y = e + 1;
-            let fluent = gives_fluent(rule);
-            if fluent {
-                let after = e + 2;
-                return Spot {
-                    line: p,
-                    end: e,
-                    conclusion: y,
-                    cites: after,
-                    rule: rule,
-                    fluent: true,
-                };
-            }
-            let cites = sequence_of(Form::Flags, d, y);
+            let rule = Rule::of(wide(d[e]));
+            let (conclusion, cites) = if gives_fluent(rule) {
+                (Concludes::Fluent(d[e + 1]), e + 2)
+            } else {
+                (
+                    Concludes::Literals(e + 1),
+                    sequence_of(Form::Flags, d, e + 1),
+                )
+            };
             Spot {
                 line: p,
                 end: e,
-                conclusion: y,
-                cites: cites,
-                rule: rule,
-                fluent: false,
+                conclusion,
+                cites,
+                rule,
             }
         }
     }
@@ -75,9 +72,18 @@ pub fn spot_of(layout: Layout, d: &[u8], places: &Places, lines: usize, k: usize
     requires k_lt_lines { k < lines }
     ensures { result ≡ spot_at layout d.now (get_or places.now k 0) (get_or places.now (plan_ends_slot + k) 0) }
 {
-    let p = place_of(places, k);
-    let e = end_of(places, k);
-    spot_at(layout, d, p, e)
+    spot_at(layout, d, place_of(places, k), end_of(places, k))
+}
+
+// The parts of the line whose number is citation k of the line at l.
+pub fn cited_of(layout: Layout, d: &[u8], places: &Places, lines: usize, l: Spot, k: usize) -> Spot
+    requires some_lines { SomeLines layout d.now places.now lines }
+    requires number_there { l.cites + 1 + 2 * k + 1 < length d.now }
+    requires number_below { number_cited d.now l k < lines }
+    ensures { result ≡ spot_at layout d.now (get_or places.now (number_cited d.now l k) 0) (get_or places.now (plan_ends_slot + number_cited d.now l k) 0) }
+{
+    let at = l.cites + 1 + 2 * k;
+    spot_of(layout, d, places, lines, two(d[at], d[at + 1]))
 }
 
 // Two lines have the same conclusion.
@@ -86,16 +92,9 @@ pub fn same_conclusions(d: &[u8], one: Spot, other: Spot) -> bool
     requires some_concluded_2 { SomeConcluded d.now other }
     ensures { SameConclusions d.now one other result }
 {
-    let p = one.conclusion;
-    let q = other.conclusion;
-    if one.fluent {
-        if other.fluent {
-            return d[p] == d[q];
-        }
-        return false;
+    match (one.conclusion, other.conclusion) {
+        (Concludes::Fluent(f), Concludes::Fluent(g)) => f == g,
+        (Concludes::Literals(y), Concludes::Literals(z)) => same_lists(d, y, d, z),
+        _ => false,
     }
-    if other.fluent {
-        return false;
-    }
-    same_lists(d, p, d, q)
 }

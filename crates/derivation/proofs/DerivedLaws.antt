@@ -7,23 +7,22 @@ use mathlib.Core.List.{List, [], ◌∷◌}
 use lib.ListN.{length, get_or, set, length-set}
 use lib.Seq.{get_or-set_same}
 use borrow.Author.Tests.{ltb-false}
+use Rattle.std.specs.Prelude.{Option, None, Some}
+use Rattle.std.specs.Prelude.{Ok, Err}
+use Rattle.parsing.specs.Read.{Numbered, Passed, stopped}
+use Rattle.parsing.specs.declared.faults.Fault.{Fault}
+use Rattle.parsing.specs.declared.faults.Refusal.TheVariants.{NotExclusive}
 use Rattle.meaning.specs.declared.Layout.{Layout}
 use Rattle.meaning.specs.Limits.{format, all_literals}
 use Rattle.meaning.specs.Requests.{Sequence, Request}
 use Rattle.meaning.specs.declared.Form.TheVariants.{Flags}
-use Rattle.meaning.specs.Reading.{Got, got, fault, next, Met, literals, two_bytes_at, count_at, bound_of, list_at, repeated, plan_at}
+use Rattle.meaning.specs.Reading.{Got, got, next, Met, literals, two_bytes_at, count_at, bound_of, list_at, repeated, plan_at}
 use Rattle.meaning.specs.Refusals
 use Rattle.meaning.specs.Refusals.{nowhere, at, or_else, overlap_in, refuse}
 use Rattle.meaning.specs.Derivations.{Line, Derivation, concluded_at, closing_at, line_at, read_derivation, overlap_in_lines, check_lines, check_end, check_derivation}
 use Rattle.meaning.proofs.TestLaws.{by-test, clash, either_right}
 use Rattle.meaning.proofs.SettledLaws.{fault≢got, got_same}
 use Rattle.meaning.proofs.RangeLaws.{not_refused, after_got, repeated_length}
-use Rattle.parsing.specs.declared.bytes.Read.{Read}
-use Rattle.parsing.specs.declared.bytes.Read.TheVariants.{Value, Fault}
-use Rattle.parsing.specs.declared.lists.Passed.{Passed}
-use Rattle.parsing.specs.declared.lists.Passed.TheVariants.{To, Fault as Stop}
-use Rattle.finding.specs.declared.places.Found.{Found}
-use Rattle.finding.specs.declared.places.Found.TheVariants.{Nowhere, At}
 use Rattle.reading.specs.Noted.{noting, outcome, slots}
 use Rattle.reading.specs.Listed.{ListHere}
 use Rattle.reading.specs.Planned.{plan_noted, noting_met, outcome_met}
@@ -75,15 +74,15 @@ module _ (n m : ℕ) (s : List ℕ) where
         is = ap (λ (x : Line). x.c) (got_same is5);
       }
 
-  module _ (few : n ≤ format.fluents) (less : m ≤ format.actions) (plan : ℕ) (t u : List ℕ) (r : Read) (read : outcome_met r u ≡ noting_met (plan_noted Flags plan t) (plan_at format Flags n m s plan)) where
-    pub line_held : (count e : ℕ) → length t ≡ slots → r ≡ Value count e → SomePlan Flags s u count
+  module _ (few : n ≤ format.fluents) (less : m ≤ format.actions) (plan : ℕ) (t u : List ℕ) (r : Numbered) (read : outcome_met r u ≡ noting_met (plan_noted Flags plan t) (plan_at format Flags n m s plan)) where
+    pub line_held : (count e : ℕ) → length t ≡ slots → r ≡ Ok (count, e) → SomePlan Flags s u count
     line_held count e room is = plan_left Flags n m s few less (counted_flags s) plan t u r count e (omega arith) read is
 
     module _ (p : ℕ) (after : plan ≡ sequence_place Flags s p) where
       there : (l : Line) → (w : LinePlan p l) → plan_at format Flags n m s plan ≡ got w.plan w.end
       there l w = ap (plan_at format Flags n m s) after ∙ w.reads
 
-      pub line_sought : (count e : ℕ) (f : Found) → length t ≡ slots → r ≡ Value count e → OverlapFound Flags s u count f → LineFound n m s p f
+      pub line_sought : (count e : ℕ) (f : Option ℕ) → length t ≡ slots → r ≡ Ok (count, e) → OverlapFound Flags s u count f → LineFound n m s p f
       line_sought count e f room is all =
           record {
             holds = λ layout l here.
@@ -93,11 +92,11 @@ module _ (n m : ℕ) (s : List ℕ) where
           }
 
       -- A plan that stands there is read without a fault.
-      pub line_read : (k e : ℕ) → r ≡ Fault k e → LineFound n m s p Nowhere
-      line_read k e is =
+      pub line_read : (why : Fault) → r ≡ Err why → LineFound n m s p None
+      line_read why is =
           record {
             holds = λ layout l here.
-                let no : plan_at format Flags n m s plan ≡ fault k e = fault_met (plan_noted Flags plan t) (plan_at format Flags n m s plan) k e (met_fault (plan_noted Flags plan t) (plan_at format Flags n m s plan) r u k e read is) in
+                let no : plan_at format Flags n m s plan ≡ stopped why = fault_met (plan_noted Flags plan t) (plan_at format Flags n m s plan) why (met_fault (plan_noted Flags plan t) (plan_at format Flags n m s plan) r u why read is) in
                 absurd (fault≢got (sym no ∙ there l (line_plan few layout p l here)));
           }
 
@@ -116,11 +115,11 @@ module _ (n m : ℕ) (s : List ℕ) where
     sought_start = record { holds = λ layout ls here size. record { lines = ls; here = here; size = omega (arith, size); same = refl } }
 
     module _ (k : ℕ) (so_far : Sought places count k) where
-      pub sought_done : count ≤ k → LinesFound n m s places count Nowhere
+      pub sought_done : count ≤ k → LinesFound n m s places count None
       unfolding overlap_in_lines found
       sought_done h = record { holds = λ layout ls here size. let rest = so_far.holds layout ls here size in none ls rest.lines (omega (arith, h, rest.size)) rest.same }
         where
-          none : (ls rest : List Line) → length rest ≡ 0 → overlap_in_lines ls ≡ overlap_in_lines rest → Nowhere ≡ found (overlap_in_lines ls)
+          none : (ls rest : List Line) → length rest ≡ 0 → overlap_in_lines ls ≡ overlap_in_lines rest → None ≡ found (overlap_in_lines ls)
           none ls [] h same = rw same
           none ls (l ∷ rest) h same = absurd (omega (arith, h))
 
@@ -148,11 +147,11 @@ module _ (n m : ℕ) (s : List ℕ) where
               let w = next_line some.layout some.lines some.here some.size in
               subst (ListHere all_literals s) (sym place) (line_plan few some.layout (get_or places k 0) w.line w.first).first
 
-          module _ (f : Found) (answer : LineFound n m s p f) where
+          module _ (f : Option ℕ) (answer : LineFound n m s p f) where
             first_found : (layout : Layout) (l : Line) → LineHere n m s layout (get_or places k 0) l → f ≡ found (overlap_in l.c)
             first_found layout l here = answer.holds layout l (subst (λ (j : ℕ). LineHere n m s layout j l) (sym place) here)
 
-            pub sought_next : f ≡ Nowhere → Sought places count (k + 1)
+            pub sought_next : f ≡ None → Sought places count (k + 1)
             unfolding or_else
             sought_next is =
                 record {
@@ -162,7 +161,7 @@ module _ (n m : ℕ) (s : List ℕ) where
                       record { lines = w.rest; here = w.then; size = w.size; same = w.same ∙ rw none };
                 }
 
-            pub sought_at : (q : ℕ) → f ≡ At q → LinesFound n m s places count (At q)
+            pub sought_at : (q : ℕ) → f ≡ Some q → LinesFound n m s places count (Some q)
             unfolding or_else found
             sought_at q is =
                 record {
@@ -252,11 +251,11 @@ module _ (n m : ℕ) (s : List ℕ) (layout : Layout) where
 
   -- SETTLED.
   module _ (t u : List ℕ) (all : Passed) (read : outcome all u ≡ noting derivation_noted (read_derivation format n m s layout) t) where
-    pub derived_fault : (k q : ℕ) (v : List ℕ) → all ≡ Stop k q → outcome (Stop k q) v ≡ noting derivation_noted (settled_derivation layout n m s) t
+    pub derived_fault : (why : Fault) (v : List ℕ) → all ≡ Err why → outcome (Err why) v ≡ noting derivation_noted (settled_derivation layout n m s) t
     unfolding settled_derivation noting next outcome
-    derived_fault k q v is = rw (noting_fault derivation_noted (read_derivation format n m s layout) all t u read k q is)
+    derived_fault why v is = rw (noting_fault derivation_noted (read_derivation format n m s layout) all t u read why is)
 
-    module _ (e : ℕ) (is : all ≡ To e) where
+    module _ (e : ℕ) (is : all ≡ Ok e) where
       read_got : (d : Derivation) × (read_derivation format n m s layout ≡ got d e) × (u ≡ derivation_noted d t)
       read_got = noting_got derivation_noted (read_derivation format n m s layout) all t u read e is
 
@@ -304,15 +303,15 @@ module _ (n m : ℕ) (s : List ℕ) (layout : Layout) where
         pub lines_stand : length t ≡ places_slots → SomeLines n m s u count
         lines_stand long = record { layout = layout; lines = read_got.0.lines; here = lines_there long; size = counted }
 
-        module _ (long : length t ≡ places_slots) (f : Found) (answer : LinesFound n m s u count f) where
+        module _ (long : length t ≡ places_slots) (f : Option ℕ) (answer : LinesFound n m s u count f) where
           sought_18 : f ≡ found (overlap_in_lines read_got.0.lines)
           sought_18 = answer.holds layout read_got.0.lines (lines_there long) counted
 
-          pub lines_at_18 : (p : ℕ) → f ≡ At p → outcome (Stop 18 p) u ≡ noting derivation_noted (settled_derivation layout n m s) t
+          pub lines_at_18 : (p : ℕ) → f ≡ Some p → (why : Fault) → why ≡ record { refusal = NotExclusive; place = p } → outcome (Err why) u ≡ noting derivation_noted (settled_derivation layout n m s) t
           unfolding settled_derivation noting next refuse outcome
-          lines_at_18 p g = rw (read_got.1, found_at (overlap_in_lines read_got.0.lines) f sought_18 p g)
+          lines_at_18 p g why is-why = rw (is-why, read_got.1, found_at (overlap_in_lines read_got.0.lines) f sought_18 p g)
 
-          pub lines_past_18 : f ≡ Nowhere → outcome (To e) u ≡ noting derivation_noted (settled_derivation layout n m s) t
+          pub lines_past_18 : f ≡ None → outcome (Ok e) u ≡ noting derivation_noted (settled_derivation layout n m s) t
           unfolding settled_derivation noting next refuse outcome
           lines_past_18 g = rw (read_got.1, found_none (overlap_in_lines read_got.0.lines) f sought_18 g) (ap (λ (v : List ℕ). got v e) read_got.2)
 

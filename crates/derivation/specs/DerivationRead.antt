@@ -4,13 +4,10 @@ use Rattle.meaning.specs.declared.Layout.{Layout}
 use Rattle.meaning.specs.Limits
 use Rattle.meaning.specs.Limits.{Limits, format}
 use Rattle.meaning.specs.declared.Form.TheVariants.{Flags}
-use Rattle.meaning.specs.Reading.{Got, got, fault, next, Met, two_bytes_at, count_at, repeated, plan_at}
-use Rattle.meaning.specs.Requests.{Sequence}
+use Rattle.meaning.specs.Reading.{Got, got, next, two_bytes_at, count_at, repeated, plan_at}
 use Rattle.meaning.specs.Refusals.{refuse}
 use Rattle.meaning.specs.Derivations.{Line, Derivation, concluded_at, read_derivation, overlap_in_lines}
 use Rattle.reading.specs.Planned.{bytes_of}
-use Rattle.derivation.specs.declared.derivations.Lined.{Lined}
-use Rattle.derivation.specs.declared.derivations.Lined.TheVariants.{To, Fault}
 
 -- Where the plan of a line ends: after its list X and its two-byte item count.
 unfoldable pub plan_end : Line → ℕ
@@ -48,21 +45,17 @@ ending layout n s p =
     citing s q
 
 -- Where the plan ends, and where what follows it ends.
-unfoldable pub ended_at : (plan_end : ℕ) → Got (List ℕ) → Lined
-ended_at q (got cites e) = To q e
-ended_at q (fault n p) = Fault n p
+unfoldable pub ended_at : (plan_end : ℕ) → Got (List ℕ) → Got ℕ
+ended_at q g = next g λ cites e. got q e
 
-unfoldable pub planned : Layout → (n m : ℕ) → List ℕ → ℕ → Lined
-planned layout n m s p = from_plan (plan_at format Flags n m s p)
-  where
-    from_plan : Got (Met (Sequence ℕ)) → Lined
-    from_plan (got plan q) = ended_at q (ending layout n s q)
-    from_plan (fault k q) = Fault k q
+unfoldable pub planned : Layout → (n m : ℕ) → List ℕ → ℕ → Got ℕ
+planned layout n m s p =
+    next (plan_at format Flags n m s p) λ plan q.
+    ended_at q (ending layout n s q)
 
 -- A line, told by the end of its plan and its own.
-unfoldable pub lined : Got Line → Lined
-lined (got l e) = To (plan_end l) e
-lined (fault n p) = Fault n p
+unfoldable pub lined : Got Line → Got ℕ
+lined g = next g λ l e. got (plan_end l) e
 
 -- A derivation settled: read without a fault, and past 18 over the plans of all lines (FORMAT 5.22 to 5.25).
 unfoldable pub settled_derivation : Layout → (n m : ℕ) → List ℕ → Got Derivation

@@ -1,4 +1,5 @@
 -- What it means that the lines of a derivation stand where their places say, and what is found in their plans.
+use Rattle.std.specs.Prelude.{Option}
 use Rattle.std.specs.Prelude.{ℕ, ◌+◌, ◌≡◌, List, [], ◌∷◌, length, get_or}
 use Rattle.meaning.specs.declared.Layout.{Layout}
 use Rattle.meaning.specs.Limits.{format}
@@ -6,7 +7,6 @@ use Rattle.meaning.specs.Reading.{got}
 use Rattle.meaning.specs.Refusals.{overlap_in}
 use Rattle.meaning.specs.Derivations.{Line, Derivation, line_at, read_derivation, overlap_in_lines}
 use Rattle.finding.specs.Places.{found}
-use Rattle.finding.specs.declared.places.Found as Code
 use Rattle.derivation.specs.DerivationRead.{plan_end, plan_ends_slot, lines_end}
 
 -- In what follows the request has n fluents and m actions, and s is the derivation.
@@ -35,9 +35,9 @@ module _ (n m : ℕ) (s : List ℕ) where
     pub closes : get_or places lines_end 0 ≡ derivation.closing_place
 
   -- What is found is the first overlap in the plan of whatever line stands at p, in either layout (FORMAT 4.40).
-  pub record LineFound (p : ℕ) (r : Code.Found) : Type 0 where
+  pub record LineFound (p : ℕ) (r : Option ℕ) : Type 0 where
     pub holds : (layout : Layout) (l : Line) → LineHere layout p l → r ≡ found (overlap_in l.c)
 
   -- What is found is the first overlap in the plans of whatever lines of the given number stand there (FORMAT 5.25).
-  pub record LinesFound (places : List ℕ) (count : ℕ) (r : Code.Found) : Type 0 where
+  pub record LinesFound (places : List ℕ) (count : ℕ) (r : Option ℕ) : Type 0 where
     pub holds : (layout : Layout) (ls : List Line) → LinesHere layout places 0 ls → length ls ≡ count → r ≡ found (overlap_in_lines ls)

@@ -2,15 +2,18 @@ ghost use Rattle.std.specs.Prelude.{◌≡◌, ◌≤◌, ◌<◌, length, set};
 ghost use Rattle.meaning.specs.Limits.{format};
 ghost use Rattle.meaning.specs.Reading.{repeated, two_bytes_at};
 ghost use Rattle.meaning.specs.Derivations.{concludes_fluent, conclusion_at, concluded_at, line_at, closing_at, read_derivation};
-ghost use Rattle.parsing.specs.Read.{passed};
+ghost use Rattle.parsing.specs.Read.{numbered, over, passed};
+ghost use Rattle.parsing.specs.RuleKinds.{number_or_none};
 ghost use Rattle.reading.specs.Noted.{noting, outcome};
 ghost use Rattle.derivation.specs.DerivationRead.{places_noted, derivation_noted, citing, ending, planned, lined, places_slots};
 
-use super::rule_numbers;
-use meaning::{Form, Layout};
-use parsing::bytes::{Read, below_at, byte_at, count_at, two_bytes_at};
+use meaning::Layout;
+use parsing::bytes::{below_at, byte_at, count_at, two_bytes_at};
+use parsing::faults::{Fault, Refusal};
 use parsing::limits;
-use parsing::lists::{Kind, Passed, list_at};
+use parsing::lists::{Kind, list_at};
+use parsing::rule_kinds::Rule;
+use parsing::shapes::OfFlags;
 use reader::{Reader, moved, new};
 use reading::notes::Notes;
 use reading::plan::plan_at;
@@ -32,136 +35,113 @@ pub fn sized(places: &Places)
 }
 
 // A given number of citations from `start` on.
-fn citations_from(s: &[u8], count: usize, start: usize) -> Passed
-    ensures { result ≡ passed (repeated (two_bytes_at s.now) count start) }
+fn citations_from(s: &[u8], count: usize, start: usize) -> Result<usize, Fault>
+    ensures { over result ≡ passed (repeated (two_bytes_at s.now) count start) }
 {
-    let mut left = count;
     let mut p = start;
-    while 0 < left {
-        match two_bytes_at(s, p) {
-            Read::Value(x, q) => {
-                p = q;
-                left -= 1;
-            }
-            Read::Fault(k, q) => {
-                return Passed::Fault(k, q);
-            }
-        }
+    for _ in 0..count {
+        let (_, after) = two_bytes_at(s, p)?;
+        p = after;
     }
-    Passed::To(p)
+    Ok(p)
 }
 
 // The citations, from their count on.
-fn cites_at(s: &[u8], p: usize) -> Passed
-    ensures { result ≡ passed (citing s.now p) }
+fn cites_at(s: &[u8], p: usize) -> Result<usize, Fault>
+    ensures { over result ≡ passed (citing s.now p) }
 {
-    match count_at(0, limits::CITATIONS, s, p) {
-        Read::Value(c, r) => citations_from(s, c, r),
-        Read::Fault(k, r) => Passed::Fault(k, r),
-    }
+    let (count, first) = count_at(0, limits::CITATIONS, s, p)?;
+    citations_from(s, count, first)
 }
 
 // The rule concludes a fluent.
-pub fn gives_fluent(rule: usize) -> bool
-    ensures { result ≡ concludes_fluent rule }
+pub fn gives_fluent(rule: Option<Rule>) -> bool
+    ensures { result ≡ concludes_fluent (number_or_none rule) }
 {
-    if rule == rule_numbers::LOOK_RULE {
-        return true;
-    }
-    if rule == rule_numbers::LITERAL_RULE {
-        return true;
-    }
-    if rule == rule_numbers::SENSING_WHETHER_RULE {
-        return true;
-    }
-    if rule == rule_numbers::COMPOSITION_WHETHER_RULE {
-        return true;
-    }
-    rule == rule_numbers::BRANCHING_WHETHER_RULE
+    matches!(
+        rule,
+        Some(
+            Rule::Look
+                | Rule::Literal
+                | Rule::SensingWhether
+                | Rule::CompositionWhether
+                | Rule::BranchingWhether
+        )
+    )
 }
 
 // The conclusion after the rule byte: a fluent, or a list.
-fn conclusion_at(n: usize, s: &[u8], rule: usize, p: usize) -> Passed
+fn conclusion_at(n: usize, s: &[u8], rule: usize, p: usize) -> Result<usize, Fault>
     requires { n ≤ format.fluents }
-    ensures { result ≡ passed (conclusion_at format n s.now rule p) }
+    ensures { over result ≡ passed (conclusion_at format n s.now rule p) }
 {
-    let fluent = gives_fluent(rule);
-    if fluent {
-        match below_at(n, s, p) {
-            Read::Value(_, q) => {
-                return Passed::To(q);
-            }
-            Read::Fault(k, q) => {
-                return Passed::Fault(k, q);
-            }
-        }
+    if gives_fluent(Rule::of(rule)) {
+        let (_, after) = below_at(n, s, p)?;
+        return Ok(after);
     }
     list_at(Kind::Literals, n, limits::LISTED, s, p)
 }
 
 // The conclusion and the rule byte, in the layout's order.
-fn concluded_at(layout: Layout, n: usize, s: &[u8], p: usize) -> Passed
+fn concluded_at(layout: Layout, n: usize, s: &[u8], p: usize) -> Result<usize, Fault>
     requires { n ≤ format.fluents }
-    ensures { result ≡ passed (concluded_at format n s.now layout p) }
+    ensures { over result ≡ passed (concluded_at format n s.now layout p) }
 {
     match layout {
-        Layout::Plain => match list_at(Kind::Literals, n, limits::LISTED, s, p) {
-            Passed::To(q) => match byte_at(s, q) {
-                Read::Value(_, e) => Passed::To(e),
-                Read::Fault(k, e) => Passed::Fault(k, e),
-            },
-            Passed::Fault(k, q) => Passed::Fault(k, q),
-        },
-        Layout::Closing => match byte_at(s, p) {
-            Read::Value(rule, q) => conclusion_at(n, s, rule, q),
-            Read::Fault(k, q) => Passed::Fault(k, q),
-        },
+        Layout::Plain => {
+            let rule = list_at(Kind::Literals, n, limits::LISTED, s, p)?;
+            let (_, after) = byte_at(s, rule)?;
+            Ok(after)
+        }
+        Layout::Closing => {
+            let (rule, conclusion) = byte_at(s, p)?;
+            conclusion_at(n, s, rule, conclusion)
+        }
     }
 }
 
 // The conclusion, the rule byte and the citations.
-fn end_at(layout: Layout, n: usize, s: &[u8], p: usize) -> Passed
+fn end_at(layout: Layout, n: usize, s: &[u8], p: usize) -> Result<usize, Fault>
     requires { n ≤ format.fluents }
-    ensures { result ≡ passed (ending layout n s.now p) }
+    ensures { over result ≡ passed (ending layout n s.now p) }
 {
-    match concluded_at(layout, n, s, p) {
-        Passed::To(q) => cites_at(s, q),
-        Passed::Fault(k, q) => Passed::Fault(k, q),
-    }
+    let cites = concluded_at(layout, n, s, p)?;
+    cites_at(s, cites)
 }
 
-// Where the plan ends and where the line ends; or the fault met.
-#[derive(Clone, Copy)]
-pub enum Lined {
-    To(usize, usize),
-    Fault(u8, usize),
-}
-
-// The plan, with notes that are of no use afterwards, and what follows it.
-fn plan_first(layout: Layout, n: usize, m: usize, s: &[u8], p: usize, t: &mut Notes) -> Lined
+// The plan, with notes that are of no use afterwards, and what follows it: where the plan ends and where the line ends.
+fn plan_first(
+    layout: Layout,
+    n: usize,
+    m: usize,
+    s: &[u8],
+    p: usize,
+    t: &mut Notes,
+) -> Result<(usize, usize), Fault>
     requires n_le_fluents { n ≤ format.fluents }
     requires s_len_bound { length s.now ≤ format.derivation }
-    ensures { result ≡ planned layout n m s.now p }
+    ensures { numbered result ≡ planned layout n m s.now p }
 {
-    match plan_at(Form::Flags, n, m, s, p, t) {
-        Read::Value(_, q) => match end_at(layout, n, s, q) {
-            Passed::To(e) => Lined::To(q, e),
-            Passed::Fault(k, e) => Lined::Fault(k, e),
-        },
-        Read::Fault(k, q) => Lined::Fault(k, q),
-    }
+    let (_, plan_end) = plan_at::<OfFlags>(n, m, s, p, t)?;
+    let end = end_at(layout, n, s, plan_end)?;
+    Ok((plan_end, end))
 }
 
-// A line.
-pub fn line_at(layout: Layout, n: usize, m: usize, s: &[u8], p: usize, t: &mut Notes) -> Lined
+// A line: where its plan ends and where the line ends.
+pub fn line_at(
+    layout: Layout,
+    n: usize,
+    m: usize,
+    s: &[u8],
+    p: usize,
+    t: &mut Notes,
+) -> Result<(usize, usize), Fault>
     requires n_le_fluents { n ≤ format.fluents }
     requires s_len_bound { length s.now ≤ format.derivation }
-    ensures { result ≡ lined (line_at format n m s.now layout p) }
+    ensures { numbered result ≡ lined (line_at format n m s.now layout p) }
 {
-    match list_at(Kind::Literals, n, limits::LISTED, s, p) {
-        Passed::To(q) => plan_first(layout, n, m, s, q, t),
-        Passed::Fault(k, q) => Lined::Fault(k, q),
-    }
+    let plan = list_at(Kind::Literals, n, limits::LISTED, s, p)?;
+    plan_first(layout, n, m, s, plan, t)
 }
 
 pub fn note_place(k: usize, p: usize, places: &mut Places)
@@ -182,29 +162,20 @@ fn lines_from(
     start: usize,
     t: &mut Notes,
     places: &mut Places,
-) -> Passed
+) -> Result<usize, Fault>
     requires n_le_fluents { n ≤ format.fluents }
     requires count_le_lines { count ≤ format.lines }
     requires s_len_bound { length s.now ≤ format.derivation }
     ensures { outcome result places.new ≡ noting (places_noted 0) (repeated (line_at format n m s.now layout) count start) places.old }
 {
-    let mut k = 0;
     let mut p = start;
-    while k < count {
-        match line_at(layout, n, m, s, p, t) {
-            Lined::To(q, e) => {
-                let slot = PLAN_ENDS + k;
-                note_place(k, p, places);
-                note_place(slot, q, places);
-                k += 1;
-                p = e;
-            }
-            Lined::Fault(number, at) => {
-                return Passed::Fault(number, at);
-            }
-        }
+    for k in 0..count {
+        let (plan_end, end) = line_at(layout, n, m, s, p, t)?;
+        note_place(k, p, places);
+        note_place(PLAN_ENDS + k, plan_end, places);
+        p = end;
     }
-    Passed::To(p)
+    Ok(p)
 }
 
 // The same, from where a reader stands.
@@ -216,7 +187,7 @@ fn lines<'a>(
     count: usize,
     t: &mut Notes,
     places: &mut Places,
-) -> Passed
+) -> Result<usize, Fault>
     requires n_le_fluents { n ≤ format.fluents }
     requires count_le_lines { count ≤ format.lines }
     requires src_len_bound { length r.src.now ≤ format.derivation }
@@ -235,7 +206,7 @@ fn read_lines(
     start: usize,
     t: &mut Notes,
     places: &mut Places,
-) -> Passed
+) -> Result<usize, Fault>
     requires n_le_fluents { n ≤ format.fluents }
     requires count_le_lines { count ≤ format.lines }
     requires s_len_bound { length s.now ≤ format.derivation }
@@ -245,15 +216,15 @@ fn read_lines(
 }
 
 // What closes a derivation: nothing, or a count byte of any value and as many line numbers.
-fn closing_at(layout: Layout, s: &[u8], p: usize) -> Passed
-    ensures { result ≡ passed (closing_at s.now layout p) }
+fn closing_at(layout: Layout, s: &[u8], p: usize) -> Result<usize, Fault>
+    ensures { over result ≡ passed (closing_at s.now layout p) }
 {
     match layout {
-        Layout::Plain => Passed::To(p),
-        Layout::Closing => match byte_at(s, p) {
-            Read::Value(c, q) => citations_from(s, c, q),
-            Read::Fault(k, q) => Passed::Fault(k, q),
-        },
+        Layout::Plain => Ok(p),
+        Layout::Closing => {
+            let (count, first) = byte_at(s, p)?;
+            citations_from(s, count, first)
+        }
     }
 }
 
@@ -265,37 +236,22 @@ pub fn read_derivation(
     s: &[u8],
     t: &mut Notes,
     places: &mut Places,
-) -> Passed
+) -> Result<usize, Fault>
     requires { n ≤ format.fluents }
     ensures { outcome result places.new ≡ noting derivation_noted (read_derivation format n m s.now layout) places.old }
 {
     if limits::DERIVATION < s.len() {
-        return Passed::Fault(limits::TOO_LONG, 0);
+        return Err(Refusal::TooLong.at(0));
     }
-    match two_bytes_at(s, 0) {
-        Read::Value(c, p) => {
-            if c < 1 {
-                return Passed::Fault(limits::COUNT_OUTSIDE, 0);
-            }
-            if limits::LINES < c {
-                return Passed::Fault(limits::COUNT_OUTSIDE, 0);
-            }
-            match read_lines(layout, n, m, s, c, p, t, places) {
-                Passed::To(q) => {
-                    note_place(LINES_END, q, places);
-                    match closing_at(layout, s, q) {
-                        Passed::To(e) => {
-                            if e < s.len() {
-                                return Passed::Fault(limits::BYTES_AFTER, e);
-                            }
-                            Passed::To(e)
-                        }
-                        Passed::Fault(k, e) => Passed::Fault(k, e),
-                    }
-                }
-                Passed::Fault(k, e) => Passed::Fault(k, e),
-            }
-        }
-        Read::Fault(k, p) => Passed::Fault(k, p),
+    let (count, first) = two_bytes_at(s, 0)?;
+    if count < 1 || limits::LINES < count {
+        return Err(Refusal::CountOutside.at(0));
     }
+    let lines_end = read_lines(layout, n, m, s, count, first, t, places)?;
+    note_place(LINES_END, lines_end, places);
+    let end = closing_at(layout, s, lines_end)?;
+    if end < s.len() {
+        return Err(Refusal::BytesAfter.at(end));
+    }
+    Ok(end)
 }

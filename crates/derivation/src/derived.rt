@@ -1,6 +1,5 @@
 ghost use Rattle.std.specs.Prelude.{◌≡◌, ◌+◌, ◌≤◌, ◌<◌, length, get_or};
 ghost use Rattle.meaning.specs.Limits.{format, all_literals};
-ghost use Rattle.parsing.specs.Read.{passed};
 ghost use Rattle.reading.specs.Noted.{noting, outcome};
 ghost use Rattle.reading.specs.Listed.{ListHere};
 ghost use Rattle.derivation.specs.DerivationRead.{derivation_noted, settled_derivation, plan_ends_slot, places_slots};
@@ -9,11 +8,10 @@ ghost use Rattle.derivation.specs.Derived.{SomeLines, LineFound, LinesFound};
 use super::derivations;
 use super::derivations::{Places, read_derivation};
 use finding::branches::sequence_of;
-use finding::places::Found;
 use meaning::{Form, Layout};
-use parsing::bytes::{Read, two};
-use parsing::limits;
-use parsing::lists::Passed;
+use parsing::bytes::two;
+use parsing::faults::{Fault, Refusal};
+use parsing::shapes::OfFlags;
 use reading::notes;
 use reading::notes::{Notes, widened};
 use reading::plan::plan_at;
@@ -32,12 +30,11 @@ pub fn end_of(places: &Places, k: usize) -> usize
     requires { k < format.lines }
     ensures { result ≡ get_or places.now (plan_ends_slot + k) 0 }
 {
-    let slot = derivations::PLAN_ENDS + k;
-    place_of(places, slot)
+    place_of(places, derivations::PLAN_ENDS + k)
 }
 
 // 18 in the plan of the line at p. The plan is read again, without a fault, into notes that are of no use afterwards.
-fn overlap_in_line(n: usize, m: usize, s: &[u8], p: usize, t: &mut Notes) -> Found
+fn overlap_in_line(n: usize, m: usize, s: &[u8], p: usize, t: &mut Notes) -> Option<usize>
     requires n_le_fluents { n ≤ format.fluents }
     requires m_le_actions { m ≤ format.actions }
     requires s_len_bound { length s.now ≤ format.derivation }
@@ -46,10 +43,10 @@ fn overlap_in_line(n: usize, m: usize, s: &[u8], p: usize, t: &mut Notes) -> Fou
 {
     let plan = sequence_of(Form::Flags, s, p);
     notes::sized(t);
-    match plan_at(Form::Flags, n, m, s, plan, t) {
-        Read::Value(count, e) => overlap(Form::Flags, s, t, count),
-        Read::Fault(k, e) => Found::Nowhere,
-    }
+    let Ok((count, _)) = plan_at::<OfFlags>(n, m, s, plan, t) else {
+        return None;
+    };
+    overlap(Form::Flags, s, t, count)
 }
 
 // 18: the first branching with two conditions that are not exclusive, over a given number of lines in order.
@@ -60,7 +57,7 @@ fn overlap_in_lines(
     t: &mut Notes,
     places: &Places,
     count: usize,
-) -> Found
+) -> Option<usize>
     requires n_le_fluents { n ≤ format.fluents }
     requires m_le_actions { m ≤ format.actions }
     requires s_len_bound { length s.now ≤ format.derivation }
@@ -68,19 +65,13 @@ fn overlap_in_lines(
     requires some_lines { SomeLines n m s.now places.now count }
     ensures { LinesFound n m s.now places.now count result }
 {
-    let mut k = 0;
-    while k < count {
+    for k in 0..count {
         let p = place_of(places, k);
-        match overlap_in_line(n, m, s, p, t) {
-            Found::Nowhere => {
-                k += 1;
-            }
-            Found::At(q) => {
-                return Found::At(q);
-            }
+        if let Some(q) = overlap_in_line(n, m, s, p, t) {
+            return Some(q);
         }
     }
-    Found::Nowhere
+    None
 }
 
 // A derivation settled, for a request with n fluents and m actions: read without a fault, and past 18.
@@ -91,20 +82,16 @@ pub fn settle_derivation(
     s: &[u8],
     t: &mut Notes,
     places: &mut Places,
-) -> Passed
+) -> Result<usize, Fault>
     requires n_le_fluents { n ≤ format.fluents }
     requires m_le_actions { m ≤ format.actions }
     ensures { outcome result places.new ≡ noting derivation_noted (settled_derivation layout n m s.now) places.old }
 {
     derivations::sized(places);
-    match read_derivation(layout, n, m, s, t, places) {
-        Passed::To(e) => {
-            let count = two(s[0], s[1]);
-            match overlap_in_lines(n, m, s, t, places, count) {
-                Found::Nowhere => Passed::To(e),
-                Found::At(p) => Passed::Fault(limits::NOT_EXCLUSIVE, p),
-            }
-        }
-        Passed::Fault(k, q) => Passed::Fault(k, q),
+    let end = read_derivation(layout, n, m, s, t, places)?;
+    let count = two(s[0], s[1]);
+    match overlap_in_lines(n, m, s, t, places, count) {
+        Some(p) => Err(Refusal::NotExclusive.at(p)),
+        None => Ok(end),
     }
 }

@@ -2,6 +2,5 @@
 
 #![tactic(auto)]
 
-pub mod rule_numbers; // the rules
 pub mod derivations; // derivations
 pub mod derived; // derivations past refusal 18

@@ -5,6 +5,8 @@ use mathlib.Core.Path.{◌≡◌, refl, sym, ◌∙◌, ap, subst}
 use mathlib.Core.List.{List}
 use lib.ListN.{length, get_or}
 use borrow.Author.Tests.{leb-false, eqb-true}
+use Rattle.std.specs.Prelude.{Ok}
+use Rattle.parsing.specs.Read.{Numbered}
 use Rattle.meaning.specs.Limits.{format}
 use Rattle.meaning.specs.Requests.{Sequence}
 use Rattle.meaning.specs.declared.Form.{Form}
@@ -15,8 +17,6 @@ use Rattle.reading.specs.Listed.{span}
 use Rattle.reading.specs.Planned.{items_of, bytes_of, plan_noted, noting_met, outcome_met}
 use Rattle.finding.specs.Branches.{sequence_place, no_item}
 use Rattle.finding.specs.PlansHeld.{own_items, branches_in, BranchWritten, Written, ItemWritten, BranchesWritten, PlanHeld, SomePlan}
-use Rattle.parsing.specs.declared.bytes.Read.{Read}
-use Rattle.parsing.specs.declared.bytes.Read.TheVariants.{Value}
 use Rattle.reading.proofs.SectionLaws.{byte_got, count_got}
 use Rattle.parsing.specs.Masks.{Counted}
 use Rattle.finding.proofs.HereLaws.{literals_read, literals_length}
@@ -123,7 +123,7 @@ module _ (form : Form) (n m : ℕ) (s : List ℕ) where
       plan_read u is = record { plan = x.value; held = rw is plan_held; items = plan_items }
 
     -- What the code that reads a plan answers, and what is then found.
-    module _ (p : ℕ) (t u : List ℕ) (r : Read) (count e : ℕ) (room : effect_lines ≤ length t) (left : outcome_met r u ≡ noting_met (plan_noted form p t) (plan_at format form n m s p)) (is : r ≡ Value count e) where
+    module _ (p : ℕ) (t u : List ℕ) (r : Numbered) (count e : ℕ) (room : effect_lines ≤ length t) (left : outcome_met r u ≡ noting_met (plan_noted form p t) (plan_at format form n m s p)) (is : r ≡ Ok (count, e)) where
       pub plan_left : SomePlan form s u count
       plan_left =
           let w = met_value (plan_noted form p t) (plan_at format form n m s p) r u count e left is in

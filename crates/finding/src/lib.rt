@@ -2,5 +2,4 @@
 
 #![tactic(auto)]
 
-pub mod places; // the place of what is sought, or none
 pub mod branches; // from a branch of a plan to the next one

@@ -10,6 +10,8 @@ use lib.Dec.{ltb}
 use mir.Syntax.{w8}
 use mir.Val.{Fits}
 use borrow.Author.Tests.{lt-ltb, le-ltb}
+use Rattle.std.specs.Prelude.{Ok, Err}
+use Rattle.parsing.specs.declared.faults.Fault.{Fault}
 use Rattle.meaning.specs.declared.Answer.{Answer}
 use Rattle.meaning.specs.declared.Layout.{Layout}
 use Rattle.meaning.specs.declared.Layout.TheVariants.{Plain, Closing}
@@ -20,9 +22,8 @@ use Rattle.meaning.specs.Reading.{got}
 use Rattle.meaning.specs.Refusals.{settled}
 use Rattle.meaning.specs.Derivations.{check_derivation, answer, accepted_if, beyond, check_settled, check}
 use Rattle.meaning.proofs.TestLaws.{pick_true, pick_false}
-use Rattle.parsing.specs.declared.lists.Passed.{Passed}
-use Rattle.parsing.specs.declared.lists.Passed.TheVariants.{To, Fault as Stop}
-use Rattle.parsing.specs.Read.{passed}
+use Rattle.parsing.specs.Faults.{number_of}
+use Rattle.parsing.specs.Read.{Passed, over, passed}
 use Rattle.parsing.proofs.ListLaws.{passed_to, passed_stop}
 use Rattle.meaning.specs.declared.Form.TheVariants.{Flags}
 use Rattle.reading.specs.Noted.{noting, outcome, goals_slot}
@@ -87,24 +88,24 @@ module _ (s t : List ℕ) (here : AtHand Flags s t) (layout : Layout) (d : List 
     unfolding check_at_hand check_settled
     check_goes = pick_false _ _ _ (beyond_is ∙ clear)
 
-    module _ (r : Passed) (is : r ≡ passed (check_derivation format layout (request_in Flags s t) d)) where
+    module _ (r : Passed) (is : over r ≡ passed (check_derivation format layout (request_in Flags s t) d)) where
       -- Accepted.
-      pub check_accepts : (e : ℕ) → r ≡ To e → record { number = 0; input = 0; place = 0; count = 0 } ≡ check_at_hand layout (request_in Flags s t) d
+      pub check_accepts : (e : ℕ) → r ≡ Ok e → record { number = 0; input = 0; place = 0; count = 0 } ≡ check_at_hand layout (request_in Flags s t) d
       unfolding accepted_if answer
-      check_accepts e passes = sym (check_goes ∙ ap accepted_if (passed_to (check_derivation format layout (request_in Flags s t) d) e (sym is ∙ passes)).1)
+      check_accepts e passes = sym (check_goes ∙ ap accepted_if (passed_to (check_derivation format layout (request_in Flags s t) d) e (sym is ∙ ap over passes)).1)
 
       -- Refused.
-      pub check_refuses : (k p : ℕ) → r ≡ Stop k p → record { number = k; input = 2; place = p; count = 0 } ≡ check_at_hand layout (request_in Flags s t) d
+      pub check_refuses : (why : Fault) → r ≡ Err why → record { number = number_of why.refusal; input = 2; place = why.place; count = 0 } ≡ check_at_hand layout (request_in Flags s t) d
       unfolding accepted_if answer
-      check_refuses k p stops = sym (check_goes ∙ ap accepted_if (passed_stop (check_derivation format layout (request_in Flags s t) d) k p (sym is ∙ stops)))
+      check_refuses why stops = sym (check_goes ∙ ap accepted_if (passed_stop (check_derivation format layout (request_in Flags s t) d) why (sym is ∙ ap over stops)))
 
 -- THE CALLS.
 module _ (layout : Layout) (s d t u : List ℕ) (r : Passed) (settles : outcome r u ≡ noting (request_noted Flags) (settled format s) t) where
-  pub check_settled_first : (k p : ℕ) → r ≡ Stop k p → record { number = k; input = 1; place = p; count = 0 } ≡ check format layout s d
+  pub check_settled_first : (why : Fault) → r ≡ Err why → record { number = number_of why.refusal; input = 1; place = why.place; count = 0 } ≡ check format layout s d
   unfolding check check_settled answer
-  check_settled_first k p stops = sym (ap (check_settled format layout d) (noting_fault (request_noted Flags) (settled format s) r t u settles k p stops))
+  check_settled_first why stops = sym (ap (check_settled format layout d) (noting_fault (request_noted Flags) (settled format s) r t u settles why stops))
 
-  pub check_then : (e : ℕ) → r ≡ To e → ((i : ℕ) → Fits w8 (get_or s i 0)) → t ≡ blank → (a : Answer) → a ≡ check_at_hand layout (request_in Flags s u) d → a ≡ check format layout s d
+  pub check_then : (e : ℕ) → r ≡ Ok e → ((i : ℕ) → Fits w8 (get_or s i 0)) → t ≡ blank → (a : Answer) → a ≡ check_at_hand layout (request_in Flags s u) d → a ≡ check format layout s d
   unfolding check check_at_hand check_settled
   check_then e passes bytes empty a is =
       is

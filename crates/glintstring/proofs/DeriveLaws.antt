@@ -9,6 +9,10 @@ use lib.Dec.{ltb, leb, eqb}
 use mir.Syntax.{w8}
 use mir.Val.{Fits}
 use borrow.Author.Tests.{eq-eqb, ne_eqb, lt-ltb, le-ltb, le-leb, lt-leb, leb-true, leb-false}
+use Rattle.std.specs.Prelude.{Ok, Err}
+use Rattle.parsing.specs.Faults.{number_of}
+use Rattle.parsing.specs.Read.{Passed}
+use Rattle.parsing.specs.declared.faults.Fault.{Fault}
 use Rattle.meaning.specs.declared.Answer.{Answer}
 use Rattle.meaning.specs.declared.Layout.TheVariants.{Plain}
 use Rattle.meaning.specs.Limits.{format}
@@ -26,8 +30,6 @@ use Rattle.meaning.proofs.TestLaws.{by-test, pick_true, pick_false}
 use Rattle.meaning.proofs.VerifiedLaws.{within_unread}
 use Rattle.meaning.proofs.WithinLaws.{fine_within}
 use Rattle.meaning.proofs.NarrowWalks.{narrow_never}
-use Rattle.parsing.specs.declared.lists.Passed.{Passed}
-use Rattle.parsing.specs.declared.lists.Passed.TheVariants.{To, Fault as Stop}
 use Rattle.meaning.specs.declared.Form.TheVariants.{Flags}
 use Rattle.reading.specs.Noted.{goals_slot, mode_slot, slots, noting, outcome}
 use Rattle.reading.specs.Requested.{request_noted}
@@ -36,13 +38,12 @@ use Rattle.finding.specs.Branches.{sequence_place}
 use Rattle.finding.specs.TablesHere.{blank}
 use Rattle.steps.specs.Held.{guards_in, request_in}
 use Rattle.steps.specs.AtHand.{AtHand}
-use Rattle.steps.specs.Steps.{narrow_mode, mode_in, form_in, walk_held}
+use Rattle.steps.specs.Steps.{narrow_mode, mode_in, walk_held}
 use Rattle.steps.proofs.HandLaws.{is_whether}
 use Rattle.steps.proofs.ModeLaws.{held_plain, held_narrow}
 use Rattle.steps.proofs.ModeHand.{new_mode, same_request, same_guarded, hand_stays}
 use Rattle.schemes.specs.declared.scheme.Size.{Size}
 use Rattle.schemes.specs.Sizes.{Measured}
-use Rattle.verdicts.proofs.WalkedLaws.{flags_mode}
 use Rattle.glintstring.specs.CheckCalls.{too_many}
 use Rattle.glintstring.proofs.SettledAtHand.{settled_got, settled_held}
 use Rattle.glintstring.proofs.CheckCallLaws.{beyond_is}
@@ -154,9 +155,6 @@ module _ (x : Request) (room : List ℕ) (budget : ℕ) (a : Answer) where
 pub narrow_hand : (s t : List ℕ) → AtHand Flags s t → (u : List ℕ) → u ≡ set t mode_slot 2 → AtHand Flags s u
 narrow_hand s t here u put = rw put (hand_stays Flags s t 2 here)
 
-pub narrow_form : (s t : List ℕ) → AtHand Flags s t → length t ≡ slots → (u : List ℕ) → u ≡ set t mode_slot 2 → form_in u ≡ Flags
-narrow_form s t here sized u put = flags_mode u 2 (ap mode_in put ∙ new_mode Flags s t 2 sized) refl
-
 pub narrow_verified : (s t : List ℕ) (budget : ℕ) → guards_in s t ≡ [] → length t ≡ slots → (u : List ℕ) → u ≡ set t mode_slot 2 → (lent left : List ℕ) (v : Answer)
     → record { answer = v; state = left } ≡ within lent budget (walk_held Flags s u) → v.number ≡ 0 → Verified (narrow_walk_of format (request_in Flags s u))
 narrow_verified s t budget unguarded sized u put lent left v walks none =
@@ -201,12 +199,12 @@ module _ (s t : List ℕ) (here : AtHand Flags s t) (goals : ℕ) (slot : goals 
 
 -- THE CALL.
 module _ (s room : List ℕ) (budget : ℕ) (a : Answer) (t u : List ℕ) (r : Passed) (settles : outcome r u ≡ noting (request_noted Flags) (settled format s) t) where
-  pub derive_refused : (k p : ℕ) → r ≡ Stop k p → a ≡ record { number = k; input = 1; place = p; count = 0 } → record { answer = a; room = room } ≡ derive format s room budget
+  pub derive_refused : (why : Fault) → r ≡ Err why → a ≡ record { number = number_of why.refusal; input = 1; place = why.place; count = 0 } → record { answer = a; room = room } ≡ derive format s room budget
   unfolding derive derive_got unwritten answer
-  derive_refused k p stops is =
-      ap (λ (b : Answer). record { answer = b; room = room }) is ∙ sym (ap (derive_got format room budget) (noting_fault (request_noted Flags) (settled format s) r t u settles k p stops))
+  derive_refused why stops is =
+      ap (λ (b : Answer). record { answer = b; room = room }) is ∙ sym (ap (derive_got format room budget) (noting_fault (request_noted Flags) (settled format s) r t u settles why stops))
 
-  pub derive_so : (e : ℕ) → r ≡ To e → ((j : ℕ) → Fits w8 (get_or s j 0)) → t ≡ blank → (left : List ℕ) → record { answer = a; room = left } ≡ derive_got format room budget (got (request_in Flags s u) 0)
+  pub derive_so : (e : ℕ) → r ≡ Ok e → ((j : ℕ) → Fits w8 (get_or s j 0)) → t ≡ blank → (left : List ℕ) → record { answer = a; room = left } ≡ derive_got format room budget (got (request_in Flags s u) 0)
       → record { answer = a; room = left } ≡ derive format s room budget
   unfolding derive derive_got
   derive_so e passes bytes empty left is =

@@ -11,6 +11,11 @@ use lib.Dec.{leb}
 use mir.Syntax.{w8}
 use mir.Val.{Fits}
 use borrow.Author.Tests.{ne_eqb, le-leb, lt-leb}
+use Rattle.std.specs.Prelude.{Option, None, Some}
+use Rattle.std.specs.Prelude.{Ok, Err}
+use Rattle.parsing.specs.Faults.{number_of}
+use Rattle.parsing.specs.Read.{Passed}
+use Rattle.parsing.specs.declared.faults.Fault.{Fault}
 use Rattle.meaning.specs.declared.Answer.{Answer}
 use Rattle.meaning.specs.Limits.{format}
 use Rattle.meaning.specs.Requests.{Request, Entry}
@@ -25,25 +30,20 @@ use Rattle.meaning.specs.Tests.{pick}
 use Rattle.meaning.proofs.TestLaws.{pick_false}
 use Rattle.meaning.proofs.DifferenceLaws.{same_difference}
 use Rattle.meaning.proofs.IndexAnswers.{right_index, refused_alike, nine_alike, other_judges, other_tells}
-use Rattle.parsing.specs.declared.lists.Passed.{Passed}
-use Rattle.parsing.specs.declared.lists.Passed.TheVariants.{To, Fault as Stop}
 use Rattle.meaning.specs.declared.Form.TheVariants.{Flags}
 use Rattle.reading.specs.Noted.{noting, outcome}
 use Rattle.reading.specs.Requested.{request_noted}
 use Rattle.reading.proofs.SectionLaws.{noting_fault}
 use Rattle.finding.specs.Places.{found}
 use Rattle.finding.specs.TablesHere.{blank, TableHere}
-use Rattle.finding.specs.declared.places.Found as Code
-use Rattle.finding.specs.declared.places.Found.TheVariants.{Nowhere, At}
 use Rattle.finding.proofs.FoundLaws.{found_none, found_at}
 use Rattle.steps.specs.Held.{table_in, guards_in, request_in}
 use Rattle.steps.specs.AtHand.{AtHand}
-use Rattle.steps.specs.Steps.{mode_in, form_in, walk_held}
+use Rattle.steps.specs.Steps.{mode_in, walk_held}
 use Rattle.steps.proofs.ModeLaws.{held_known}
 use Rattle.indexing.specs.IndexNotes.{index_taken}
 use Rattle.indexing.proofs.BuildLaws.{index_short}
 use Rattle.indexing.proofs.TakenHand.{taken_mode, taken_request, taken_guards, taken_hand}
-use Rattle.verdicts.proofs.WalkedLaws.{plain_mode}
 use Rattle.glintstring.proofs.SettledAtHand.{settled_got, settled_at_hand, settled_held, settled_known, settled_table}
 use Rattle.glintstring.proofs.JudgingLaws.{Gives, held_table, judge_9, judge_refused, judge_walked}
 
@@ -69,17 +69,17 @@ module _ (s i lent : List ℕ) (budget : ℕ) (a : Answer) (v : ℕ) where
   indexed_9 other is none = as_judged lent (nine_alike format s i lent budget (ne_eqb _ _ other)) (judge_9 s lent budget a v other is none)
 
   module _ (sized : length lent ≡ format.state) (t u : List ℕ) (r : Passed) (settles : outcome r u ≡ noting (request_noted Flags) (settled format s) t) where
-    pub indexed_refused : (k p : ℕ) → r ≡ Stop k p → a ≡ record { number = k; input = 1; place = p; count = 0 } → v ≡ 0
+    pub indexed_refused : (why : Fault) → r ≡ Err why → a ≡ record { number = number_of why.refusal; input = 1; place = why.place; count = 0 } → v ≡ 0
         → Gives (judge_indexed format s i lent budget) (line_indexed format s i lent budget) a lent v
-    indexed_refused k p stops is none =
-        as_judged lent (refused_alike format s i lent budget k p (noting_fault (request_noted Flags) (settled format s) r t u settles k p stops)) (judge_refused s lent budget a v sized t u r settles k p stops is none)
+    indexed_refused why stops is none =
+        as_judged lent (refused_alike format s i lent budget (number_of why.refusal) why.place (noting_fault (request_noted Flags) (settled format s) r t u settles why stops)) (judge_refused s lent budget a v sized t u r settles why stops is none)
 
-    module _ (e : ℕ) (passes : r ≡ To e) (bytes : (j : ℕ) → Fits w8 (get_or s j 0)) (empty : t ≡ blank) where
+    module _ (e : ℕ) (passes : r ≡ Ok e) (bytes : (j : ℕ) → Fits w8 (get_or s j 0)) (empty : t ≡ blank) where
       held : table_in Flags s ≡ (settled_got s t u r settles e passes).0.table
       held = held_table s u (settled_got s t u r settles e passes).0 (settled_held s t u r settles e passes bytes empty)
 
       -- Another index.
-      pub indexed_differs : (f : Code.Found) (p : ℕ) → f ≡ found (first_difference (index_of (table_in Flags s)) i) → f ≡ At p → a ≡ record { number = 45; input = 3; place = p; count = 0 } → v ≡ 0
+      pub indexed_differs : (f : Option ℕ) (p : ℕ) → f ≡ found (first_difference (index_of (table_in Flags s)) i) → f ≡ Some p → a ≡ record { number = 45; input = 3; place = p; count = 0 } → v ≡ 0
           → Gives (judge_indexed format s i lent budget) (line_indexed format s i lent budget) a lent v
       indexed_differs f p finds there is none =
           let x = settled_got s t u r settles e passes in
@@ -101,17 +101,13 @@ module _ (s i lent : List ℕ) (budget : ℕ) (a : Answer) (v : ℕ) where
           told)
 
 -- The index that no difference was found of, and the request at hand with it.
-pub right_one : (s i : List ℕ) (f : Code.Found) → f ≡ found (first_difference (index_of (table_in Flags s)) i) → f ≡ Nowhere → i ≡ index_of (table_in Flags s)
+pub right_one : (s i : List ℕ) (f : Option ℕ) → f ≡ found (first_difference (index_of (table_in Flags s)) i) → f ≡ None → i ≡ index_of (table_in Flags s)
 right_one s i f finds none = sym ((same_difference (index_of (table_in Flags s)) i).0 (found_none _ _ finds none))
 
-module _ (s t u : List ℕ) (r : Passed) (settles : outcome r u ≡ noting (request_noted Flags) (settled format s) t) (e : ℕ) (passes : r ≡ To e) (bytes : (j : ℕ) → Fits w8 (get_or s j 0)) (empty : t ≡ blank)
+module _ (s t u : List ℕ) (r : Passed) (settles : outcome r u ≡ noting (request_noted Flags) (settled format s) t) (e : ℕ) (passes : r ≡ Ok e) (bytes : (j : ℕ) → Fits w8 (get_or s j 0)) (empty : t ≡ blank)
     (i : List ℕ) (right : i ≡ index_of (table_in Flags s)) (w : List ℕ) (taken : w ≡ index_taken i 0 (table_in Flags s).actions 0 0 0 u) where
   pub indexed_hand : AtHand Flags s w
   indexed_hand = rw taken (taken_hand s u (settled_table s t u r settles e passes bytes empty) i right (settled_at_hand s t u r settles e passes bytes empty))
-
-  pub indexed_form : form_in w ≡ Flags
-  indexed_form =
-      plain_mode w (ap mode_in taken ∙ taken_mode s u (settled_table s t u r settles e passes bytes empty) i right ∙ settled_known s t u r settles e passes bytes empty)
 
 -- THE INDEX CALL, by what was read. The count has room.
 pub length_fits : (s t : List ℕ) → TableHere Flags s t → (l : ℕ) → l ≡ length (index_of (table_in Flags s)) → l < 4294967296
@@ -134,12 +130,12 @@ module _ (s t room : List ℕ) (a : Answer) (l : ℕ) (long : l ≡ length (inde
       rw (is, long, to, fits) refl
 
 module _ (s room : List ℕ) (a : Answer) (t u : List ℕ) (r : Passed) (settles : outcome r u ≡ noting (request_noted Flags) (settled format s) t) where
-  pub built_refused : (k p : ℕ) → r ≡ Stop k p → a ≡ record { number = k; input = 1; place = p; count = 0 } → record { answer = a; room = room } ≡ build format s room
+  pub built_refused : (why : Fault) → r ≡ Err why → a ≡ record { number = number_of why.refusal; input = 1; place = why.place; count = 0 } → record { answer = a; room = room } ≡ build format s room
   unfolding build build_got
-  built_refused k p stops is =
-      ap (λ (b : Answer). record { answer = b; room = room }) is ∙ sym (ap (build_got room) (noting_fault (request_noted Flags) (settled format s) r t u settles k p stops))
+  built_refused why stops is =
+      ap (λ (b : Answer). record { answer = b; room = room }) is ∙ sym (ap (build_got room) (noting_fault (request_noted Flags) (settled format s) r t u settles why stops))
 
-  pub built_so : (e : ℕ) → r ≡ To e → ((j : ℕ) → Fits w8 (get_or s j 0)) → t ≡ blank → (w : List ℕ) → record { answer = a; room = w } ≡ build_got room (got (request_in Flags s u) 0)
+  pub built_so : (e : ℕ) → r ≡ Ok e → ((j : ℕ) → Fits w8 (get_or s j 0)) → t ≡ blank → (w : List ℕ) → record { answer = a; room = w } ≡ build_got room (got (request_in Flags s u) 0)
       → record { answer = a; room = w } ≡ build format s room
   unfolding build build_got
   built_so e passes bytes empty w is =

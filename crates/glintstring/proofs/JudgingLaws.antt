@@ -9,6 +9,10 @@ use lib.Dec.{eqb}
 use mir.Syntax.{w8}
 use mir.Val.{Fits}
 use borrow.Author.Tests.{eq-eqb, ne_eqb}
+use Rattle.std.specs.Prelude.{Ok, Err}
+use Rattle.parsing.specs.Faults.{number_of}
+use Rattle.parsing.specs.Read.{Passed, stopped}
+use Rattle.parsing.specs.declared.faults.Fault.{Fault}
 use Rattle.meaning.specs.declared.Answer.{Answer}
 use Rattle.meaning.specs.Tests.{pick}
 use Rattle.meaning.specs.Limits.{format}
@@ -28,8 +32,6 @@ use Rattle.meaning.specs.Asking.{line_told, line_got, line}
 use Rattle.meaning.proofs.TestLaws.{pick_true, pick_false}
 use Rattle.meaning.proofs.KeptEnds.{walked_unguarded}
 use Rattle.meaning.proofs.ReportedLine.{line_not}
-use Rattle.parsing.specs.declared.lists.Passed.{Passed}
-use Rattle.parsing.specs.declared.lists.Passed.TheVariants.{To, Fault as Stop}
 use Rattle.meaning.specs.declared.Form.TheVariants.{Flags, Valued}
 use Rattle.reading.specs.Noted.{mode_slot, noting, outcome}
 use Rattle.reading.specs.Requested.{request_noted, guarded_noted}
@@ -77,12 +79,12 @@ module _ {A : Type 0} (note : A → List ℕ → List ℕ) (table : A → Table)
       judged_so x reads = pick_true _ _ _ (eq-eqb _ _ sized) ∙ ap judges reads
 
       -- A refusal is judged as one, and has no line.
-      call_refused : (t u : List ℕ) (r : Passed) → outcome r u ≡ noting note read t → (k p : ℕ) → r ≡ Stop k p → judges (fault k p) ≡ refused_at lent k p
-          → a ≡ record { number = k; input = 1; place = p; count = 0 } → v ≡ 0 → Gives given lined a lent v
+      call_refused : (t u : List ℕ) (r : Passed) → outcome r u ≡ noting note read t → (why : Fault) → r ≡ Err why → judges (stopped why) ≡ refused_at lent (number_of why.refusal) why.place
+          → a ≡ record { number = number_of why.refusal; input = 1; place = why.place; count = 0 } → v ≡ 0 → Gives given lined a lent v
       unfolding line_got
-      call_refused t u r settles k p stops refuses is none =
-          let reads = noting_fault note read r t u settles k p stops in
-          (ap (λ (b : Answer). record { answer = b; state = lent }) is ∙ sym (judged_so (fault k p) reads ∙ refuses), none ∙ sym (ap (line_got table s given) reads))
+      call_refused t u r settles why stops refuses is none =
+          let reads = noting_fault note read r t u settles why stops in
+          (ap (λ (b : Answer). record { answer = b; state = lent }) is ∙ sym (judged_so (stopped why) reads ∙ refuses), none ∙ sym (ap (line_got table s given) reads))
 
       -- What was read is judged, and its table has the line.
       call_judged : (left : List ℕ) (x : A) (e : ℕ) → read ≡ got x e → record { answer = a; state = left } ≡ judges (got x e) → v ≡ line_told (table x) s (record { answer = a; state = left })
@@ -99,11 +101,11 @@ module _ (s lent : List ℕ) (budget : ℕ) (a : Answer) (v : ℕ) where
   judge_9 = call_9 (request_noted Flags) (λ (x : Request). x.table) (settled format s) s lent (judge_got (walk_of format) lent budget) a v
 
   module _ (sized : length lent ≡ format.state) (t u : List ℕ) (r : Passed) (settles : outcome r u ≡ noting (request_noted Flags) (settled format s) t) where
-    pub judge_refused : (k p : ℕ) → r ≡ Stop k p → a ≡ record { number = k; input = 1; place = p; count = 0 } → v ≡ 0 → Gives (judge format s lent budget) (line format s lent budget) a lent v
+    pub judge_refused : (why : Fault) → r ≡ Err why → a ≡ record { number = number_of why.refusal; input = 1; place = why.place; count = 0 } → v ≡ 0 → Gives (judge format s lent budget) (line format s lent budget) a lent v
     unfolding judge line judge_got
-    judge_refused k p stops = call_refused (request_noted Flags) (λ (x : Request). x.table) (settled format s) s lent (judge_got (walk_of format) lent budget) a v sized t u r settles k p stops refl
+    judge_refused why stops = call_refused (request_noted Flags) (λ (x : Request). x.table) (settled format s) s lent (judge_got (walk_of format) lent budget) a v sized t u r settles why stops refl
 
-    pub judge_walked : (e : ℕ) → r ≡ To e → ((i : ℕ) → Fits w8 (get_or s i 0)) → t ≡ blank → (left : List ℕ) → record { answer = a; state = left } ≡ within lent budget (walk_held Flags s u)
+    pub judge_walked : (e : ℕ) → r ≡ Ok e → ((i : ℕ) → Fits w8 (get_or s i 0)) → t ≡ blank → (left : List ℕ) → record { answer = a; state = left } ≡ within lent budget (walk_held Flags s u)
         → v ≡ line_told (table_in Flags s) s (record { answer = a; state = left }) → Gives (judge format s lent budget) (line format s lent budget) a left v
     unfolding judge line judge_got
     judge_walked e passes bytes empty left walks told =
@@ -123,13 +125,13 @@ module _ (s lent : List ℕ) (budget : ℕ) (a : Answer) (v : ℕ) where
   cases_9 = call_9 (request_noted Flags) (λ (x : Request). x.table) (settled format s) s lent (judge_got (ByCases.walk_of format) lent budget) a v
 
   module _ (sized : length lent ≡ format.state) (t u : List ℕ) (r : Passed) (settles : outcome r u ≡ noting (request_noted Flags) (settled format s) t) where
-    pub cases_refused : (k p : ℕ) → r ≡ Stop k p → a ≡ record { number = k; input = 1; place = p; count = 0 } → v ≡ 0
+    pub cases_refused : (why : Fault) → r ≡ Err why → a ≡ record { number = number_of why.refusal; input = 1; place = why.place; count = 0 } → v ≡ 0
         → Gives (judge_by_cases format s lent budget) (line_by_cases format s lent budget) a lent v
     unfolding judge_by_cases line_by_cases judge_got
-    cases_refused k p stops =
-        call_refused (request_noted Flags) (λ (x : Request). x.table) (settled format s) s lent (judge_got (ByCases.walk_of format) lent budget) a v sized t u r settles k p stops refl
+    cases_refused why stops =
+        call_refused (request_noted Flags) (λ (x : Request). x.table) (settled format s) s lent (judge_got (ByCases.walk_of format) lent budget) a v sized t u r settles why stops refl
 
-    pub cases_walked : (e : ℕ) → r ≡ To e → ((i : ℕ) → Fits w8 (get_or s i 0)) → t ≡ blank → (w : List ℕ) → w ≡ set u mode_slot 1 → (left : List ℕ)
+    pub cases_walked : (e : ℕ) → r ≡ Ok e → ((i : ℕ) → Fits w8 (get_or s i 0)) → t ≡ blank → (w : List ℕ) → w ≡ set u mode_slot 1 → (left : List ℕ)
         → record { answer = a; state = left } ≡ within lent budget (walk_held Flags s w) → v ≡ line_told (table_in Flags s) s (record { answer = a; state = left })
         → Gives (judge_by_cases format s lent budget) (line_by_cases format s lent budget) a left v
     unfolding judge_by_cases line_by_cases judge_got
@@ -146,13 +148,13 @@ module _ (s lent : List ℕ) (budget : ℕ) (a : Answer) (v : ℕ) where
   guarded_9 = call_9 guarded_noted (λ (g : GuardedRequest). g.request.table) (settled_guarded format s) s lent (judge_got (Guards.walk_of format) lent budget) a v
 
   module _ (sized : length lent ≡ format.state) (t u : List ℕ) (r : Passed) (settles : outcome r u ≡ noting guarded_noted (settled_guarded format s) t) where
-    pub guarded_refused : (k p : ℕ) → r ≡ Stop k p → a ≡ record { number = k; input = 1; place = p; count = 0 } → v ≡ 0
+    pub guarded_refused : (why : Fault) → r ≡ Err why → a ≡ record { number = number_of why.refusal; input = 1; place = why.place; count = 0 } → v ≡ 0
         → Gives (judge_guarded format s lent budget) (line_guarded format s lent budget) a lent v
     unfolding judge_guarded line_guarded judge_got
-    guarded_refused k p stops =
-        call_refused guarded_noted (λ (g : GuardedRequest). g.request.table) (settled_guarded format s) s lent (judge_got (Guards.walk_of format) lent budget) a v sized t u r settles k p stops refl
+    guarded_refused why stops =
+        call_refused guarded_noted (λ (g : GuardedRequest). g.request.table) (settled_guarded format s) s lent (judge_got (Guards.walk_of format) lent budget) a v sized t u r settles why stops refl
 
-    pub guarded_walked : (e : ℕ) → r ≡ To e → ((i : ℕ) → Fits w8 (get_or s i 0)) → t ≡ blank → (left : List ℕ) → record { answer = a; state = left } ≡ within lent budget (walk_held Flags s u)
+    pub guarded_walked : (e : ℕ) → r ≡ Ok e → ((i : ℕ) → Fits w8 (get_or s i 0)) → t ≡ blank → (left : List ℕ) → record { answer = a; state = left } ≡ within lent budget (walk_held Flags s u)
         → v ≡ line_told (table_in Flags s) s (record { answer = a; state = left }) → Gives (judge_guarded format s lent budget) (line_guarded format s lent budget) a left v
     unfolding judge_guarded line_guarded judge_got Guards.walk_of
     guarded_walked e passes bytes empty left walks told =
@@ -169,12 +171,12 @@ module _ (s lent : List ℕ) (budget : ℕ) (a : Answer) where
   values_9 other is = (call_9 (request_noted Valued) (λ (x : Request). x.table) (settled_values format s) s lent (judge_got (Values.walk_of format s) lent budget) a 0 other is refl).0
 
   module _ (sized : length lent ≡ format.state) (t u : List ℕ) (r : Passed) (settles : outcome r u ≡ noting (request_noted Valued) (settled_values format s) t) where
-    pub values_refused : (k p : ℕ) → r ≡ Stop k p → a ≡ record { number = k; input = 1; place = p; count = 0 } → record { answer = a; state = lent } ≡ judge_values format s lent budget
+    pub values_refused : (why : Fault) → r ≡ Err why → a ≡ record { number = number_of why.refusal; input = 1; place = why.place; count = 0 } → record { answer = a; state = lent } ≡ judge_values format s lent budget
     unfolding judge_values judge_got
-    values_refused k p stops is =
-        (call_refused (request_noted Valued) (λ (x : Request). x.table) (settled_values format s) s lent (judge_got (Values.walk_of format s) lent budget) a 0 sized t u r settles k p stops refl is refl).0
+    values_refused why stops is =
+        (call_refused (request_noted Valued) (λ (x : Request). x.table) (settled_values format s) s lent (judge_got (Values.walk_of format s) lent budget) a 0 sized t u r settles why stops refl is refl).0
 
-    pub values_walked : (e : ℕ) → r ≡ To e → ((i : ℕ) → Fits w8 (get_or s i 0)) → t ≡ blank → (w : List ℕ) → w ≡ set u mode_slot 3 → (left : List ℕ)
+    pub values_walked : (e : ℕ) → r ≡ Ok e → ((i : ℕ) → Fits w8 (get_or s i 0)) → t ≡ blank → (w : List ℕ) → w ≡ set u mode_slot 3 → (left : List ℕ)
         → record { answer = a; state = left } ≡ within lent budget (walk_held Valued s w) → record { answer = a; state = left } ≡ judge_values format s lent budget
     unfolding judge_values judge_got
     values_walked e passes bytes empty w put left walks =

@@ -1,13 +1,11 @@
 -- The line that goes with a walk's answer. A walk that stops with 2 does so at the first byte of an item of its plan, and what asking names there stands in
 -- the request; so the line is that of the answer and of the bytes left. Assumes nothing.
-use Prim.Native.Nat.{ℕ, ◌+◌, ◌≤◌, ◌<◌}
+use Prim.Native.Nat.{ℕ, ◌<◌}
 use native.Mathlib.Omega.{arith}
 use mathlib.Core.Path.{◌≡◌, sym, ◌∙◌, ap, subst}
 use mathlib.Core.List.{List}
-use lib.ListN.{length, get_or, set, replicate, length-set, length-replicate}
-use lib.Seq.{get_or-set_same, get_or-set_other, ext_get_or}
-use lib.Dec.{eqb}
-use borrow.Author.Tests.{eqb-true, eqb-false, eq-eqb, ne_eqb}
+use lib.ListN.{get_or}
+use borrow.Author.Tests.{eq-eqb, ne_eqb}
 use Rattle.meaning.specs.declared.Answer.{Answer}
 use Rattle.meaning.specs.declared.Runs.{Runs}
 use Rattle.meaning.specs.declared.Runs.TheVariants.{By, Short, Never}
@@ -20,7 +18,7 @@ use Rattle.meaning.specs.ByCases.{after_cases}
 use Rattle.meaning.specs.Judging.{Judgement, reported, ended, within}
 use Rattle.meaning.specs.Asking.{asked, line_of, line_at, line_told}
 use Rattle.meaning.specs.Reported.{ItemIn, item_place}
-use Rattle.meaning.proofs.TestLaws.{by-test, pick_true, pick_false}
+use Rattle.meaning.proofs.TestLaws.{pick_true, pick_false}
 use Rattle.meaning.proofs.PickLaws.{pick_has}
 use Rattle.meaning.proofs.KeptEnds.{EndSo, any_outcome}
 use Rattle.meaning.proofs.AskingLaws.{LineOf, OfAction, asked_of_action}
@@ -34,31 +32,6 @@ use Rattle.steps.proofs.HeldEnds.{held_so}
 use Rattle.finding.proofs.ReadLaws.{run_stands}
 use Rattle.glintstring.specs.Missing.{ItemByte}
 use Rattle.meaning.specs.declared.Form.TheVariants.{Flags}
-
--- COPIED below fluent f.
-pub record Copying (state marks : List ℕ) (f : ℕ) : Type 0 where
-  pub sized : length marks ≡ format.state
-  pub few : f ≤ format.fluents
-  pub done : (j : ℕ) → j < f → get_or marks j 0 ≡ get_or state j 0
-
-pub copying_starts : (state : List ℕ) → Copying state (replicate format.fluents 0) 0
-copying_starts state = record { sized = length-replicate {A = ℕ} format.fluents 0; few = omega arith; done = λ j h. absurd (omega arith) }
-
-module _ (state marks : List ℕ) (f : ℕ) (copying : Copying state marks f) where
-  pub copying_next : f < format.fluents → (v : ℕ) → v ≡ get_or state f 0 → Copying state (set marks f v) (f + 1)
-  copying_next more v is =
-      let sized = copying.sized in
-      record {
-        sized = length-set marks f v ∙ sized;
-        few = omega arith;
-        done = λ j h.
-            by-test (eqb j f)
-            (λ t. let same : j ≡ f = eqb-true _ _ t in rw same (get_or-set_same marks f v 0 (omega arith) ∙ is))
-            (λ n. let other = eqb-false j f n in get_or-set_other marks f j v 0 (λ e. other (omega arith)) ∙ copying.done j (omega (arith, other)));
-      }
-
-  pub copying_done : format.fluents ≤ f → length state ≡ format.state → marks ≡ state
-  copying_done all was = let sized = copying.sized in ext_get_or 0 marks state (omega arith) (λ j h. copying.done j (omega arith))
 
 -- WHERE A WALK STOPS.
 module _ (s t : List ℕ) (here : AtHand Flags s t) where
@@ -134,7 +107,7 @@ module _ (s : List ℕ) (place : ℕ) (state : List ℕ) where
 module _ (s t : List ℕ) (here : AtHand Flags s t) (a : ℕ) (marks : State) (r : Runs) (is : r ≡ asked (table_in Flags s) a marks) where
   named_small : (p : ℕ) → LineOf (table_in Flags s) a p → p < 65536
   named_small p of =
-      let ends = (run_stands s (table_in Flags s) here.table_end (sections s t here) of.0 of.1).1.ends in
+      let ends = (run_stands s (table_in Flags s) here.table.end (sections s t here) of.0 of.1).1.ends in
       let at = of.3 in
       let short = here.short in
       omega (arith, ends, at, short)

@@ -1,4 +1,4 @@
--- A settled request is at hand, with guards or without, and so is one with values: it was read from the start, into notes that held nothing, and 16 let it pass. Its notes say the form of its walk. Assumes nothing.
+-- A settled request is at hand, with guards or without, and so is one with values: it was read from the start, into notes that held nothing, and 16 let it pass. Assumes nothing.
 use Prim.Native.Nat.{ℕ}
 use native.Mathlib.Omega.{arith}
 use mathlib.Core.Path.{◌≡◌, refl, ◌∙◌, ap, subst}
@@ -6,6 +6,8 @@ use mathlib.Core.List.{List, []}
 use lib.ListN.{length, get_or, set}
 use mir.Syntax.{w8}
 use mir.Val.{Fits}
+use Rattle.std.specs.Prelude.{Ok}
+use Rattle.parsing.specs.Read.{Passed}
 use Rattle.meaning.specs.Limits.{format}
 use Rattle.meaning.specs.Requests.{Request}
 use Rattle.meaning.specs.Reading.{got, literals_in, read_request}
@@ -18,8 +20,6 @@ use Rattle.meaning.specs.ByCases.{walked_by_cases}
 use Rattle.meaning.specs.Guards.{GuardedRequest, settled_guarded}
 use Rattle.meaning.proofs.SettledLaws.{got_same, refuse_got, next_got, Settled, settled_is}
 use Rattle.meaning.proofs.GuardedReads.{guarded_past}
-use Rattle.parsing.specs.declared.lists.Passed.{Passed}
-use Rattle.parsing.specs.declared.lists.Passed.TheVariants.{To}
 use Rattle.meaning.specs.declared.Form.TheVariants.{Flags, Valued}
 use Rattle.reading.specs.Noted.{mode_slot, slots, noting, outcome}
 use Rattle.reading.specs.Requested.{request_noted, guarded_noted}
@@ -27,14 +27,13 @@ use Rattle.reading.proofs.SectionLaws.{noting_got}
 use Rattle.finding.specs.TablesHere.{blank, TableHere}
 use Rattle.steps.specs.Held.{guards_in, request_in}
 use Rattle.steps.specs.AtHand.{AtHand}
-use Rattle.steps.specs.Steps.{mode_in, values_mode, form_in, walk_held}
+use Rattle.steps.specs.Steps.{mode_in, walk_held}
 use Rattle.steps.proofs.ModeLaws.{held_cases, held_values}
 use Rattle.steps.proofs.ModeHand.{table_mode, new_mode, same_request, same_guarded, hand_stays}
 use Rattle.steps.proofs.JustRead.{plain_at_hand, plain_request, plain_table, plain_guards, guarded_at_hand, guarded_request, guarded_table, guarded_guards}
-use Rattle.verdicts.proofs.WalkedLaws.{flags_mode, plain_mode, values_there}
 
 -- WITHOUT GUARDS.
-module _ (s t u : List ℕ) (r : Passed) (settles : outcome r u ≡ noting (request_noted Flags) (settled format s) t) (e : ℕ) (passes : r ≡ To e) where
+module _ (s t u : List ℕ) (r : Passed) (settles : outcome r u ≡ noting (request_noted Flags) (settled format s) t) (e : ℕ) (passes : r ≡ Ok e) where
   pub settled_got : (x : Request) × (settled format s ≡ got x e) × (u ≡ request_noted Flags x t)
   settled_got = noting_got (request_noted Flags) (settled format s) r t u settles e passes
 
@@ -57,9 +56,6 @@ module _ (s t u : List ℕ) (r : Passed) (settles : outcome r u ≡ noting (requ
     pub settled_known : mode_in u ≡ 0
     settled_known = table_mode s u settled_table
 
-    pub settled_form : form_in u ≡ Flags
-    settled_form = plain_mode u settled_known
-
     pub settled_sized : length u ≡ slots
     settled_sized = settled_table.sized
 
@@ -67,7 +63,7 @@ module _ (s t u : List ℕ) (r : Passed) (settles : outcome r u ≡ noting (requ
     settled_unguarded = plain_guards Flags s (λ i. (bytes i).fits) u settled_got.0 e past.reads noted
 
 -- WITH GUARDS.
-module _ (s t u : List ℕ) (r : Passed) (settles : outcome r u ≡ noting guarded_noted (settled_guarded format s) t) (e : ℕ) (passes : r ≡ To e) where
+module _ (s t u : List ℕ) (r : Passed) (settles : outcome r u ≡ noting guarded_noted (settled_guarded format s) t) (e : ℕ) (passes : r ≡ Ok e) where
   pub guarded_got : (g : GuardedRequest) × (settled_guarded format s ≡ got g e) × (u ≡ guarded_noted g t)
   guarded_got = noting_got guarded_noted (settled_guarded format s) r t u settles e passes
 
@@ -86,20 +82,14 @@ module _ (s t u : List ℕ) (r : Passed) (settles : outcome r u ≡ noting guard
     pub guarded_known : mode_in u ≡ 0
     guarded_known = table_mode s u (guarded_table s (λ i. (bytes i).fits) u guarded_got.0 e (guarded_past format s guarded_got.0 e guarded_got.1).0 noted_guarded)
 
-    pub guarded_form : form_in u ≡ Flags
-    guarded_form = plain_mode u guarded_known
-
     pub guards_held : guards_in s u ≡ guarded_got.0.guards
     guards_held = guarded_guards s (λ i. (bytes i).fits) u guarded_got.0 e (guarded_past format s guarded_got.0 e guarded_got.1).0 noted_guarded
 
 -- BY CASES it is the same request, with the mode put into the notes.
-module _ (s t u : List ℕ) (r : Passed) (settles : outcome r u ≡ noting (request_noted Flags) (settled format s) t) (e : ℕ) (passes : r ≡ To e) (bytes : (i : ℕ) → Fits w8 (get_or s i 0)) (empty : t ≡ blank)
+module _ (s t u : List ℕ) (r : Passed) (settles : outcome r u ≡ noting (request_noted Flags) (settled format s) t) (e : ℕ) (passes : r ≡ Ok e) (bytes : (i : ℕ) → Fits w8 (get_or s i 0)) (empty : t ≡ blank)
     (v : List ℕ) (put : v ≡ set u mode_slot 1) where
   pub cases_hand : AtHand Flags s v
   cases_hand = rw put (hand_stays Flags s u 1 (settled_at_hand s t u r settles e passes bytes empty))
-
-  pub cases_form : form_in v ≡ Flags
-  cases_form = flags_mode v 1 (ap mode_in put ∙ new_mode Flags s u 1 (settled_sized s t u r settles e passes bytes empty)) refl
 
   pub cases_walk : walk_held Flags s v ≡ walked_by_cases (settled_got s t u r settles e passes).0 (first_state format (settled_got s t u r settles e passes).0.table)
   unfolding request_in
@@ -111,7 +101,7 @@ module _ (s t u : List ℕ) (r : Passed) (settles : outcome r u ≡ noting (requ
       ∙ ap (λ (x : Request). walked_by_cases x (first_state format x.table)) (same_request Flags s u 1 ∙ settled_held s t u r settles e passes bytes empty)
 
 -- WITH VALUES, and the mode of such a walk put into the notes.
-module _ (s t u : List ℕ) (r : Passed) (settles : outcome r u ≡ noting (request_noted Valued) (settled_values format s) t) (e : ℕ) (passes : r ≡ To e) where
+module _ (s t u : List ℕ) (r : Passed) (settles : outcome r u ≡ noting (request_noted Valued) (settled_values format s) t) (e : ℕ) (passes : r ≡ Ok e) where
   pub values_got : (x : Request) × (settled_values format s ≡ got x e) × (u ≡ request_noted Valued x t)
   values_got = noting_got (request_noted Valued) (settled_values format s) r t u settles e passes
 
@@ -130,10 +120,6 @@ module _ (s t u : List ℕ) (r : Passed) (settles : outcome r u ≡ noting (requ
 
     pub values_hand : AtHand Valued s v
     values_hand = rw put (hand_stays Valued s u 3 (plain_at_hand Valued s (λ i. (bytes i).fits) u values_got.0 e values_past.0 noted_values values_past.1))
-
-    pub values_form : form_in v ≡ Valued
-    values_form =
-        values_there v (ap mode_in put ∙ new_mode Valued s u values_mode (plain_table Valued s (λ i. (bytes i).fits) u values_got.0 e values_past.0 noted_values).sized)
 
     pub values_walk : walk_held Valued s v ≡ walk_of format s values_got.0
     unfolding walk_of request_in

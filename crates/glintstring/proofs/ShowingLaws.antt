@@ -1,6 +1,7 @@
 -- A part from a place on has what is left there, and beyond the end nothing, at the end. Assumes nothing.
-use Prim.Native.Nat.{ℕ, ◌+◌, ◌-◌, ◌/◌, ◌%◌, ◌≤◌, ◌<◌, min}
+use Prim.Native.Nat.{ℕ, ◌+◌, ◌-◌, ◌/◌, ◌%◌, min}
 use native.Mathlib.Omega.{arith}
+use native.Mathlib.Decide.{dec_lt}
 use mathlib.Core.Path.{◌≡◌, sym, ◌∙◌, ap}
 use mathlib.Core.List.{List, []}
 use lib.ListN.{length, drop, take, length-drop, drop_of_length-le}
@@ -17,14 +18,13 @@ use Rattle.glintstring.specs.ShownPart.{chosen}
 pub rest_bytes : (s : List ℕ) (place : ℕ) → take (length s - place) (drop place s) ≡ drop place s
 rest_bytes s place = take_all (length s - place) (drop place s) (omega (arith, length-drop place s))
 
-pub beyond_bytes : (s : List ℕ) (place : ℕ) → length s < place → take (length s - length s) (drop (length s) s) ≡ drop place s
-beyond_bytes s place far = rest_bytes s (length s) ∙ drop_of_length-le s {i = length s} (omega arith) ∙ sym (drop_of_length-le s {i = place} (omega arith))
-
-pub beyond_start : (s : List ℕ) (at place : ℕ) → length s < place → at + length s ≡ at + min place (length s)
-beyond_start s at place far = omega arith
-
-pub within_start : (s : List ℕ) (at place : ℕ) → place ≤ length s → at + place ≡ at + min place (length s)
-within_start s at place near = omega arith
+pub from_bytes : (s : List ℕ) (place m : ℕ) → m ≡ min place (length s) → take (length s - m) (drop m s) ≡ drop place s
+from_bytes s place m least =
+    rest_bytes s m
+    ∙ elim (dec_lt (length s) place) [
+      | yes far ↦ drop_of_length-le s {i = m} (omega arith) ∙ sym (drop_of_length-le s {i = place} (omega arith))
+      | no near ↦ let same : m ≡ place = omega arith in ap (λ (k : ℕ). drop k s) same
+    ]
 
 -- THE ANSWER names the request, the derivation, or neither.
 module _ (a : Answer) (request derivation : List ℕ) where

@@ -3,7 +3,6 @@ ghost use Rattle.meaning.specs.declared.Layout.TheVariants.{Plain, Closing};
 ghost use Rattle.meaning.specs.Derivations.{check};
 ghost use Rattle.meaning.specs.Limits.{format};
 ghost use Rattle.steps.specs.Held.{request_in};
-ghost use Rattle.steps.specs.AtHand.{AtHand};
 ghost use Rattle.glintstring.specs.CheckCalls.{too_many, check_at_hand};
 ghost use Rattle.meaning.specs.declared.Form.TheVariants.{Flags};
 
@@ -11,11 +10,13 @@ use checking::check::check_derivation;
 use finding::branches::sequence_of;
 use meaning::{Answer, Form, Layout};
 use parsing::bytes::wide;
-use parsing::lists::Passed;
+use parsing::shapes::OfFlags;
 use reading::notes;
 use reading::notes::{Notes, get};
 use refusing::settled::settle;
+use steps::request::Request;
 use verdicts::answers;
+use verdicts::answers::{refused, uncounted};
 
 // The layout does not cover this number of whether entries.
 fn is_beyond(layout: Layout, asked: usize) -> bool
@@ -28,35 +29,18 @@ fn is_beyond(layout: Layout, asked: usize) -> bool
 }
 
 // 30, and then the derivation, of a settled request.
-fn check_at_hand(layout: Layout, request: &[u8], t: &Notes, derivation: &[u8]) -> Answer
-    requires { AtHand Flags request.now t.now }
-    ensures { result ≡ check_at_hand layout (request_in Flags request.now t.now) derivation.now }
+fn check_at_hand(layout: Layout, r: &Request<OfFlags>, derivation: &[u8]) -> Answer
+    ensures { result ≡ check_at_hand layout (request_in Flags r.now.bytes.now r.now.notes.now) derivation.now }
 {
-    let goals = get(t, notes::GOALS);
-    let whether = sequence_of(Form::Flags, request, goals);
-    let asked = wide(request[whether]);
-    let refused = is_beyond(layout, asked);
-    if refused {
-        return Answer {
-            number: answers::WHETHER_ASKED,
-            input: answers::THE_REQUEST,
-            place: whether,
-            count: 0,
-        };
+    let goals = get(r.notes, notes::GOALS);
+    let whether = sequence_of(Form::Flags, r.bytes, goals);
+    let asked = wide(r.bytes[whether]);
+    if is_beyond(layout, asked) {
+        return uncounted(answers::WHETHER_ASKED, answers::THE_REQUEST, whether);
     }
-    match check_derivation(layout, request, t, derivation) {
-        Passed::To(_) => Answer {
-            number: answers::VERIFIED,
-            input: answers::NEITHER_INPUT,
-            place: 0,
-            count: 0,
-        },
-        Passed::Fault(k, p) => Answer {
-            number: k,
-            input: answers::THE_DERIVATION,
-            place: p,
-            count: 0,
-        },
+    match check_derivation(layout, r, derivation) {
+        Ok(_) => uncounted(answers::VERIFIED, answers::NEITHER_INPUT, 0),
+        Err(fault) => refused(fault, answers::THE_DERIVATION),
     }
 }
 
@@ -66,13 +50,8 @@ fn check_as(layout: Layout, request: &[u8], derivation: &[u8]) -> Answer
 {
     let mut t: Notes = [0u16; notes::SLOTS];
     match settle(request, &mut t) {
-        Passed::To(_) => check_at_hand(layout, request, &t, derivation),
-        Passed::Fault(k, p) => Answer {
-            number: k,
-            input: answers::THE_REQUEST,
-            place: p,
-            count: 0,
-        },
+        Ok(_) => check_at_hand(layout, &Request::of(request, &t), derivation),
+        Err(fault) => refused(fault, answers::THE_REQUEST),
     }
 }
 

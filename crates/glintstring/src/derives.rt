@@ -16,23 +16,23 @@ use finding::branches::sequence_of;
 use meaning::{Answer, Form};
 use parsing::bytes::wide;
 use parsing::limits;
-use parsing::lists::Passed;
+use parsing::shapes::OfFlags;
 use reading::notes;
 use reading::notes::{Notes, get, put};
 use refusing::settled::settle;
 use schemes::scheme::{measure, write};
+use steps::request::Request;
 use steps::trying::NARROW;
 use verdicts::answers;
-use verdicts::answers::uncounted;
+use verdicts::answers::{refused, uncounted};
 use verdicts::walked::walk_plan;
 
 // The lines of a request whose walk is fine go to the room, where they fit: 38 and 39 are known before the first is written.
-fn write_lines(request: &[u8], t: &Notes, room: &mut [u8]) -> Answer
-    requires at_hand { AtHand Flags request.now t.now }
-    requires verified { Verified (narrow_walk_of format (request_in Flags request.now t.now)) }
-    ensures { record { answer = result; room = room.new } ≡ write_lines format room.old (derivation_of format (request_in Flags request.now t.now)) }
+fn write_lines(r: &Request<OfFlags>, room: &mut [u8]) -> Answer
+    requires { Verified (narrow_walk_of format (request_in Flags r.now.bytes.now r.now.notes.now)) }
+    ensures { record { answer = result; room = room.new } ≡ write_lines format room.old (derivation_of format (request_in Flags r.now.bytes.now r.now.notes.now)) }
 {
-    let size = measure(request, t);
+    let size = measure(r);
     let lines = size.lines;
     let bytes = size.bytes;
     if limits::LINES < lines {
@@ -44,7 +44,7 @@ fn write_lines(request: &[u8], t: &Notes, room: &mut [u8]) -> Answer
     if room.len() < bytes {
         return uncounted(answers::ROOM_SHORT, answers::NEITHER_INPUT, 0);
     }
-    write(request, t, room);
+    write(r, room);
     Answer {
         number: answers::VERIFIED,
         input: answers::NEITHER_INPUT,
@@ -63,16 +63,17 @@ fn derive_walked(request: &[u8], t: &mut Notes, room: &mut [u8], budget: u32) ->
     ensures { record { answer = result; room = room.new } ≡ derive_got format room.old budget (got (request_in Flags request.now t.old) 0) }
 {
     let mut state = [0u8; limits::FLUENTS];
-    let walked = walk_plan(request, t, &mut state, budget);
+    let walked = walk_plan::<OfFlags>(&Request::of(request, t), &mut state, budget);
     if walked.number != answers::VERIFIED {
         return walked;
     }
     put(t, notes::MODE, NARROW);
-    let narrow = walk_plan(request, t, &mut state, budget);
+    let narrowed = Request::<OfFlags>::of(request, t);
+    let narrow = walk_plan(&narrowed, &mut state, budget);
     if narrow.number != answers::VERIFIED {
         return narrow;
     }
-    write_lines(request, t, room)
+    write_lines(&narrowed, room)
 }
 
 // 30, and then the derivation, of a settled request.
@@ -97,7 +98,7 @@ pub fn derive(request: &[u8], room: &mut [u8], budget: u32) -> Answer
 {
     let mut t: Notes = [0u16; notes::SLOTS];
     match settle(request, &mut t) {
-        Passed::To(_) => derive_at_hand(request, &mut t, room, budget),
-        Passed::Fault(k, p) => uncounted(k, answers::THE_REQUEST, p),
+        Ok(_) => derive_at_hand(request, &mut t, room, budget),
+        Err(fault) => refused(fault, answers::THE_REQUEST),
     }
 }

@@ -1,5 +1,5 @@
 // The calls as other languages have them, with answers in one number; the crate glintstring_c exports each under its name here.
-ghost use Rattle.std.specs.Prelude.{◌≡◌, ◌<◌, min};
+ghost use Rattle.std.specs.Prelude.{◌≡◌, ◌<◌};
 ghost use Rattle.meaning.specs.declared.Layout.TheVariants.{Plain, Closing};
 ghost use Rattle.meaning.specs.Limits.{format};
 ghost use Rattle.meaning.specs.Judging.{judge};
@@ -133,13 +133,6 @@ pub fn glintstring_plans(file: &[u8]) -> u32
     plans(file) as u32
 }
 
-// The smaller of two numbers.
-fn smaller(a: u64, b: u64) -> u64
-    ensures { result ≡ min a b }
-{
-    if b < a { b } else { a }
-}
-
 // The showing call, of an answer in one number: where, in the input that it names, the part starts. The part goes on to that input's end;
 // an answer that names neither shows the empty part at the start. It may be called with anything.
 pub fn glintstring_show(answer: u64, request: &[u8], derivation: &[u8]) -> u64
@@ -148,10 +141,10 @@ pub fn glintstring_show(answer: u64, request: &[u8], derivation: &[u8]) -> u64
     let input = answer / 256 % 256;
     let place = answer / 65536 % 65536;
     if input == answers::THE_REQUEST as u64 {
-        return smaller(place, request.len() as u64);
+        return place.min(request.len() as u64);
     }
     if input == answers::THE_DERIVATION as u64 {
-        return smaller(place, derivation.len() as u64);
+        return place.min(derivation.len() as u64);
     }
     0
 }

@@ -9,12 +9,11 @@ ghost use Rattle.meaning.specs.declared.Form.TheVariants.{Flags};
 
 use indexing::building::{index_length, put_index};
 use meaning::Answer;
-use parsing::lists::Passed;
 use reading::notes;
 use reading::notes::Notes;
 use refusing::settled::settle;
 use verdicts::answers;
-use verdicts::answers::uncounted;
+use verdicts::answers::{refused, uncounted};
 
 // The index of a settled request goes to the room, where it fits.
 fn write_index(request: &[u8], t: &Notes, room: &mut [u8]) -> Answer
@@ -40,7 +39,7 @@ pub fn index(request: &[u8], room: &mut [u8]) -> Answer
 {
     let mut t: Notes = [0u16; notes::SLOTS];
     match settle(request, &mut t) {
-        Passed::To(_) => write_index(request, &t, room),
-        Passed::Fault(k, p) => uncounted(k, answers::THE_REQUEST, p),
+        Ok(_) => write_index(request, &t, room),
+        Err(fault) => refused(fault, answers::THE_REQUEST),
     }
 }

@@ -7,24 +7,23 @@ ghost use Rattle.meaning.specs.ByCases.{judge_by_cases, line_by_cases};
 ghost use Rattle.meaning.specs.Indexes.{judge_indexed, line_indexed};
 ghost use Rattle.meaning.specs.Valued.{judge_values};
 ghost use Rattle.steps.specs.Held.{table_in};
-ghost use Rattle.steps.specs.AtHand.{AtHand};
-ghost use Rattle.steps.specs.Steps.{form_in, walk_held};
+ghost use Rattle.steps.specs.Steps.{walk_held};
 ghost use Rattle.meaning.specs.declared.Form.TheVariants.{Flags};
 
 use super::missing::line_at;
-use finding::places::Found;
 use indexing::differing::differs;
 use indexing::taking::take_index;
 use meaning::Answer;
 use parsing::limits;
-use parsing::lists::Passed;
+use parsing::shapes::{OfFlags, OfValues};
 use reading::notes;
 use reading::notes::{Notes, put};
 use refusing::settled::{settle, settle_guarded, settle_values};
+use steps::request::Request;
 use steps::trying::VALUES;
 use verdicts::answers;
-use verdicts::answers::uncounted;
-use verdicts::walked::{walk_plan, walk_values};
+use verdicts::answers::{refused, uncounted};
+use verdicts::walked::walk_plan;
 
 // The length of a lent state.
 const STATE_BYTES: usize = limits::FLUENTS;
@@ -33,25 +32,18 @@ const STATE_BYTES: usize = limits::FLUENTS;
 const BY_CASES: usize = 1;
 
 // The walk of a settled request, and the line of the action that stopped it.
-fn walk_with_line(request: &[u8], t: &Notes, state: &mut [u8], budget: u32) -> Judged
-    requires at_hand { AtHand Flags request.now t.now }
-    requires t_value { form_in t.now ≡ Flags }
-    requires state_len { length state.old ≡ format.state }
-    ensures given { record { answer = result.answer; state = state.new } ≡ within state.old budget (walk_held Flags request.now t.now) }
-    ensures line { result.line ≡ line_told (table_in Flags request.now) request.now (record { answer = result.answer; state = state.new }) }
+fn walk_with_line(r: &Request<OfFlags>, state: &mut [u8], budget: u32) -> Judged
+    requires { length state.old ≡ format.state }
+    ensures given { record { answer = result.answer; state = state.new } ≡ within state.old budget (walk_held Flags r.now.bytes.now r.now.notes.now) }
+    ensures line { result.line ≡ line_told (table_in Flags r.now.bytes.now) r.now.bytes.now (record { answer = result.answer; state = state.new }) }
 {
-    let answer = walk_plan(request, t, state, budget);
-    if answer.number == answers::NOT_EXECUTABLE {
-        let line = line_at(request, t, answer.place, state);
-        return Judged {
-            answer: answer,
-            line: line,
-        };
-    }
-    Judged {
-        answer: answer,
-        line: 0,
-    }
+    let answer = walk_plan(r, state, budget);
+    let line = if answer.number == answers::NOT_EXECUTABLE {
+        line_at(r, answer.place, state)
+    } else {
+        0
+    };
+    Judged { answer, line }
 }
 
 // What the walk call gives: the answer, and the line that it carries (FORMAT 18.9), 0 for none.
@@ -62,14 +54,11 @@ pub struct Judged {
 }
 
 // An answer that no walk gives, and that carries no line.
-fn without_walk(number: u8, input: u8, place: usize) -> Judged
-    ensures answer_value { result.answer ≡ record { number = number; input = input; place = place; count = 0 } }
+fn without_walk(answer: Answer) -> Judged
+    ensures answer_value { result.answer ≡ answer }
     ensures line_value { result.line ≡ 0 }
 {
-    Judged {
-        answer: uncounted(number, input, place),
-        line: 0,
-    }
+    Judged { answer, line: 0 }
 }
 
 // The walk call (FORMAT 1.15). Answers 1 and 2 leave the state concerned in the lent bytes; every other leaves these as they are.
@@ -78,12 +67,12 @@ pub fn judge(request: &[u8], state: &mut [u8], budget: u32) -> Judged
     ensures line { result.line ≡ line format request.now state.old budget }
 {
     if state.len() != STATE_BYTES {
-        return without_walk(answers::STATE_LENGTH, answers::NEITHER_INPUT, 0);
+        return without_walk(uncounted(answers::STATE_LENGTH, answers::NEITHER_INPUT, 0));
     }
     let mut t: Notes = [0u16; notes::SLOTS];
     match settle(request, &mut t) {
-        Passed::To(_) => walk_with_line(request, &t, state, budget),
-        Passed::Fault(k, p) => without_walk(k, answers::THE_REQUEST, p),
+        Ok(_) => walk_with_line(&Request::of(request, &t), state, budget),
+        Err(fault) => without_walk(refused(fault, answers::THE_REQUEST)),
     }
 }
 
@@ -93,12 +82,12 @@ pub fn judge_guarded(request: &[u8], state: &mut [u8], budget: u32) -> Judged
     ensures line { result.line ≡ line_guarded format request.now state.old budget }
 {
     if state.len() != STATE_BYTES {
-        return without_walk(answers::STATE_LENGTH, answers::NEITHER_INPUT, 0);
+        return without_walk(uncounted(answers::STATE_LENGTH, answers::NEITHER_INPUT, 0));
     }
     let mut t: Notes = [0u16; notes::SLOTS];
     match settle_guarded(request, &mut t) {
-        Passed::To(_) => walk_with_line(request, &t, state, budget),
-        Passed::Fault(k, p) => without_walk(k, answers::THE_REQUEST, p),
+        Ok(_) => walk_with_line(&Request::of(request, &t), state, budget),
+        Err(fault) => without_walk(refused(fault, answers::THE_REQUEST)),
     }
 }
 
@@ -108,15 +97,15 @@ pub fn judge_by_cases(request: &[u8], state: &mut [u8], budget: u32) -> Judged
     ensures line { result.line ≡ line_by_cases format request.now state.old budget }
 {
     if state.len() != STATE_BYTES {
-        return without_walk(answers::STATE_LENGTH, answers::NEITHER_INPUT, 0);
+        return without_walk(uncounted(answers::STATE_LENGTH, answers::NEITHER_INPUT, 0));
     }
     let mut t: Notes = [0u16; notes::SLOTS];
     match settle(request, &mut t) {
-        Passed::To(_) => {
+        Ok(_) => {
             put(&mut t, notes::MODE, BY_CASES);
-            walk_with_line(request, &t, state, budget)
+            walk_with_line(&Request::of(request, &t), state, budget)
         }
-        Passed::Fault(k, p) => without_walk(k, answers::THE_REQUEST, p),
+        Err(fault) => without_walk(refused(fault, answers::THE_REQUEST)),
     }
 }
 
@@ -126,18 +115,18 @@ pub fn judge_indexed(request: &[u8], index: &[u8], state: &mut [u8], budget: u32
     ensures line { result.line ≡ line_indexed format request.now index.now state.old budget }
 {
     if state.len() != STATE_BYTES {
-        return without_walk(answers::STATE_LENGTH, answers::NEITHER_INPUT, 0);
+        return without_walk(uncounted(answers::STATE_LENGTH, answers::NEITHER_INPUT, 0));
     }
     let mut t: Notes = [0u16; notes::SLOTS];
     match settle(request, &mut t) {
-        Passed::To(_) => match differs(request, &t, index) {
-            Found::Nowhere => {
+        Ok(_) => match differs(request, &t, index) {
+            None => {
                 take_index(request, index, &mut t);
-                walk_with_line(request, &t, state, budget)
+                walk_with_line(&Request::of(request, &t), state, budget)
             }
-            Found::At(p) => without_walk(answers::INDEX_DIFFERS, answers::THE_INDEX, p),
+            Some(p) => without_walk(uncounted(answers::INDEX_DIFFERS, answers::THE_INDEX, p)),
         },
-        Passed::Fault(k, p) => without_walk(k, answers::THE_REQUEST, p),
+        Err(fault) => without_walk(refused(fault, answers::THE_REQUEST)),
     }
 }
 
@@ -150,10 +139,10 @@ pub fn judge_values(request: &[u8], state: &mut [u8], budget: u32) -> Answer
     }
     let mut t: Notes = [0u16; notes::SLOTS];
     match settle_values(request, &mut t) {
-        Passed::To(_) => {
+        Ok(_) => {
             put(&mut t, notes::MODE, VALUES);
-            walk_values(request, &t, state, budget)
+            walk_plan::<OfValues>(&Request::of(request, &t), state, budget)
         }
-        Passed::Fault(k, p) => uncounted(k, answers::THE_REQUEST, p),
+        Err(fault) => refused(fault, answers::THE_REQUEST),
     }
 }

@@ -11,11 +11,7 @@ fn from<'a>(s: &'a [u8], place: usize) -> &'a [u8]
     ensures block { result.ref_ptr.0 ≡ s.entry.ref_ptr.0 }
     ensures start { result.ref_ptr.1 ≡ s.entry.ref_ptr.1 + min place (length s.now) }
 {
-    let end = s.len();
-    if end < place {
-        return &s[end..];
-    }
-    &s[place..]
+    &s[place.min(s.len())..]
 }
 
 // The empty part at the start.

@@ -1,12 +1,11 @@
 -- A start: the guide has its own copy of the request, and it is what the walk's answer says. A walk's number is at most 3 and a refusal's at least 10, so the number tells
 -- which of the two it was. Assumes nothing.
-use Prim.Native.Nat.{ℕ, ◌+◌, ◌≤◌, ◌<◌}
+use Prim.Native.Nat.{ℕ, ◌≤◌, ◌<◌}
 use native.Mathlib.Omega.{arith}
-use native.Mathlib.Numerals.{add-one}
 use mathlib.Core.Path.{◌≡◌, refl, sym, ◌∙◌, ap, subst}
-use mathlib.Core.List.{List, [], ◌∷◌, ◌++◌}
-use lib.ListN.{length, get_or, set, take, length-set}
-use lib.Seq.{take-suc, take-suc-set, take-length}
+use Rattle.std.specs.Prelude.{Option}
+use mathlib.Core.List.{List, []}
+use lib.ListN.{length, take}
 use lib.Dec.{ltb, leb}
 use borrow.Author.Tests.{eq-eqb, ne_eqb, leb-true}
 use Rattle.meaning.specs.declared.Answer.{Answer}
@@ -31,46 +30,16 @@ use Rattle.guide.specs.declared.guides.Started as Held-started
 use Rattle.guide.specs.declared.guides.Stage.TheVariants.{Going}
 use Rattle.guide.specs.GuideHeld.{guide_held, request_of, guide_at, guide_of, started_of, Begins, OwnCopy}
 
--- THE COPY: so far the row has the first bytes of the request.
-pub record Copied (request row : List ℕ) (i : ℕ) : Type 0 where
-  pub most : i ≤ length request
-  pub sized : length row ≡ format.request
-  pub same : take i row ≡ take i request
-
-pub copied_starts : (request row : List ℕ) → length row ≡ format.request → Copied request row 0
-copied_starts request row sized = record { most = omega arith; sized = sized; same = refl }
-
-module _ (request row : List ℕ) (i : ℕ) (copied : Copied request row i) where
-  pub copied_on : length request ≤ format.request → i < length request → Copied request (set row i (get_or request i 0)) (i + 1)
-  copied_on short less =
-      let size = copied.sized in
-      record {
-        most = omega arith;
-        sized = length-set row i (get_or request i 0) ∙ size;
-        same =
-            ap (λ (n : ℕ). take n (set row i (get_or request i 0))) (add-one i)
-            ∙ take-suc-set row i (get_or request i 0) (omega arith)
-            ∙ ap (λ (l : List ℕ). l ++ (get_or request i 0 ∷ [])) copied.same
-            ∙ sym (take-suc request i 0 less)
-            ∙ ap (λ (n : ℕ). take n request) (sym (add-one i));
-      }
-
-  pub copied_all : length request ≤ i → take (length request) row ≡ request
-  copied_all past =
-      let most = copied.most in
-      let is : length request ≡ i = omega arith in
-      ap (λ (n : ℕ). take n row) is ∙ copied.same ∙ ap (λ (n : ℕ). take n request) (sym is) ∙ take-length request
-
 -- WHAT BEGINS with a copy of the request.
-pub begun_request : (request row : List ℕ) (n : ℕ) (answer : Answer) (a at : ℕ) (marks : State) → take n row ≡ request
-    → request_of (record { request = row; length = n; stage = Going; answer = answer; action = a; at = at; marks = marks }) ≡ request
+pub begun_request : (request row : List ℕ) (n : ℕ) (a : Option ℕ) (at : ℕ) (marks : State) → take n row ≡ request
+    → request_of (record { request = row; length = n; stage = Going a at marks }) ≡ request
 unfolding request_of
-begun_request request row n answer a at marks is = is
+begun_request request row n a at marks is = is
 
-pub begun_held : (request row : List ℕ) (n : ℕ) (answer : Answer) (a at : ℕ) (marks : State) → take n row ≡ request → Begins request (guide_held request a at marks)
-    → Begins request (guide_of (record { request = row; length = n; stage = Going; answer = answer; action = a; at = at; marks = marks }))
+pub begun_held : (request row : List ℕ) (n : ℕ) (a : Option ℕ) (at : ℕ) (marks : State) → take n row ≡ request → Begins request (guide_held request a at marks)
+    → Begins request (guide_of (record { request = row; length = n; stage = Going a at marks }))
 unfolding guide_of guide_at request_of
-begun_held request row n answer a at marks is begins = subst (λ (l : List ℕ). Begins request (guide_held l a at marks)) (sym is) begins
+begun_held request row n a at marks is begins = subst (λ (l : List ℕ). Begins request (guide_held l a at marks)) (sym is) begins
 
 -- THE WALK'S ANSWER does not depend on the lent bytes, and its number is at most 3.
 same_ended : (lent other : List ℕ) (c : ℕ) (e : End State) → (ended lent c e).answer ≡ (ended other c e).answer

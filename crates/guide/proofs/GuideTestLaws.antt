@@ -1,14 +1,14 @@
 -- The tests of values that may stand for no guide: an item of the plan or its end, and marks that are each one of the three. Assumes nothing.
-use Prim.Native.Nat.{ℕ, zero, suc, ◌+◌, ◌≤◌, ◌<◌}
+use Prim.Native.Nat.{ℕ, zero, suc, ◌≤◌}
 use native.Mathlib.Omega.{arith}
-use mathlib.Core.Path.{◌≡◌, refl, sym, ◌∙◌, ap}
-use mathlib.Core.Bool.{true, false}
+use mathlib.Core.Path.{◌≡◌, refl, sym, ◌∙◌}
+use mathlib.Core.Bool.{true}
 use mathlib.Core.List.{List, [], ◌∷◌}
 use mathlib.Core.Logic.{⊎_elim}
-use lib.ListN.{length, get_or, drop, drop_of_length-le}
-use lib.Seq.{drop-cons}
+use lib.ListN.{length, get_or}
 use lib.Dec.{eqb, ltb, leb}
-use borrow.Author.Tests.{eqb-true, eqb-false, eq-eqb, ne_eqb, ltb-true, lt-ltb, leb-true, le-leb, lt-leb}
+use borrow.Author.Tests.{eqb-true, eqb-false, eq-eqb, ne_eqb, ltb-true, lt-ltb, leb-true, le-leb}
+use Rattle.std.specs.List.{list_all}
 use Rattle.meaning.specs.Tests.{both, either, each_of}
 use Rattle.meaning.specs.Limits.{format}
 use Rattle.meaning.specs.Requests.{Sequence}
@@ -24,9 +24,9 @@ use Rattle.guide.specs.GuideHeld.{is_position, is_marked}
 use Rattle.meaning.specs.declared.Form.TheVariants.{Flags}
 
 -- A POSITION.
-pub end_tested : (b : Sequence ℕ) (at : ℕ) → at ≡ format.items → true ≡ is_position b at
+pub end_tested : (b : Sequence ℕ) (at : ℕ) → at ≡ format.items → eqb at format.items ≡ is_position b at
 unfolding is_position
-end_tested b at is = sym (either_left _ _ (eq-eqb _ _ is))
+end_tested b at is = eq-eqb _ _ is ∙ sym (either_left _ _ (eq-eqb _ _ is))
 
 pub item_tested : (s t : List ℕ) → AtHand Flags s t → (at items : ℕ) → (at ≡ format.items → ⊥) → items ≡ get_or t items_slot 0 → ltb at items ≡ is_position (plan_in Flags s t) at
 unfolding is_position either
@@ -49,34 +49,11 @@ module _ (b : Sequence ℕ) (at : ℕ) where
       (λ e. either_left _ _ e)
       (λ e. either_right _ _ (lt-ltb _ _ (position.there (eqb-false _ _ e))))
 
--- MARKS, those from fluent f up.
-pub record MarksLeft (marks : State) (f : ℕ) : Type 0 where
-  pub sized : length marks ≡ format.state
-  pub same : is_marked marks ≡ is_marked (drop f marks)
-
-pub marks_start : (marks : State) → length marks ≡ format.state → MarksLeft marks 0
-marks_start marks sized = record { sized = sized; same = refl }
-
-module _ (marks : State) (f : ℕ) (left : MarksLeft marks f) where
-  module _ (near : f < format.fluents) where
-    from_here : is_marked marks ≡ both (leb (get_or marks f 0) 2) (is_marked (drop (f + 1) marks))
-    unfolding is_marked each_of
-    from_here =
-        let up : suc f ≡ f + 1 = omega arith in
-        let sized = left.sized in
-        left.same ∙ ap is_marked (drop-cons marks f 0 (omega arith) ∙ ap (λ (n : ℕ). get_or marks f 0 ∷ drop n marks) up)
-
-    pub mark_large : 2 < get_or marks f 0 → false ≡ is_marked marks
-    unfolding both
-    mark_large more = sym (from_here ∙ rw (lt-leb (get_or marks f 0) 2 more))
-
-    pub mark_small : get_or marks f 0 ≤ 2 → MarksLeft marks (f + 1)
-    unfolding both
-    mark_small most = record { sized = left.sized; same = from_here ∙ rw (le-leb (get_or marks f 0) 2 most) }
-
-  pub marks_done : format.fluents ≤ f → true ≡ is_marked marks
-  unfolding is_marked each_of
-  marks_done far = let sized = left.sized in sym (left.same ∙ ap is_marked (drop_of_length-le marks {i = f} (omega arith)))
+-- MARKS, each of them.
+pub all_marked : (marks : State) → list_all (λ (m : ℕ). leb m 2) marks ≡ is_marked marks
+unfolding is_marked each_of both
+all_marked [] = refl
+all_marked (m ∷ ms) = by-test (leb m 2) (λ e. rw (e, all_marked ms)) (λ e. rw e)
 
 -- A state whose marks pass is marked, and the marks of one that is marked pass.
 each_small : (ms : List ℕ) → each_of (λ (m : ℕ). leb m 2) ms ≡ true → (f : ℕ) → get_or ms f 0 ≤ 2

@@ -5,13 +5,12 @@ use mathlib.Core.Path.{◌≡◌, refl, sym, ◌∙◌, ap}
 use mathlib.Core.List.{List}
 use mathlib.Core.Logic.{⊎_elim}
 use lib.ListN.{get_or}
+use Rattle.std.specs.Prelude.{Option, None, Some}
 use Rattle.meaning.specs.Limits.{format}
 use Rattle.meaning.specs.Requests.{Sequence, done, Branches, none, branch}
 use Rattle.meaning.specs.States.{State, known}
 use Rattle.meaning.proofs.TestLaws.{pick_true, pick_false}
 use Rattle.reading.specs.Planned.{items_of}
-use Rattle.finding.specs.declared.places.Found.{Found}
-use Rattle.finding.specs.declared.places.Found.TheVariants.{Nowhere, At}
 use Rattle.steps.specs.Held.{plan_in}
 use Rattle.steps.specs.AtHand.{AtHand}
 use Rattle.steps.specs.Rests.{rest_at, after_first, Position}
@@ -68,14 +67,14 @@ module _ (s t : List ℕ) (first : ℕ) (marks : State) (i : ℕ) (looking : Loo
   pub looking_there : i < format.items → i < items_of (plan_in Flags s t)
   looking_there less = looking.position.there (λ e. omega arith)
 
-  module _ (f : Found) (chosen : Chosen Flags s t i marks f) where
-    pub looking_on : (q : ℕ) → f ≡ At q → Looking s t first marks q
+  module _ (f : Option ℕ) (chosen : Chosen Flags s t i marks f) where
+    pub looking_on : (q : ℕ) → f ≡ Some q → Looking s t first marks q
     looking_on q is = record {
       position = chosen.at q is;
       same = looking.same ∙ ahead_taken marks (rest_at (plan_in Flags s t) i) (rest_at (plan_in Flags s t) q) (chosen.takes q is);
     }
 
-    pub looking_none : f ≡ Nowhere → came s t NoBranch ≡ ahead marks (rest_at (plan_in Flags s t) first)
+    pub looking_none : f ≡ None → came s t NoBranch ≡ ahead marks (rest_at (plan_in Flags s t) first)
     unfolding came
     looking_none is = sym (looking.same ∙ ahead_untaken marks (rest_at (plan_in Flags s t) i) (chosen.stays is))
 
@@ -111,7 +110,7 @@ pub no_action_end : (s t : List ℕ) → ActionThere s t End
 unfolding ActionThere
 no_action_end s t = tt
 
-pub chosen_falls : (s t : List ℕ) (i : ℕ) (marks : State) (f : Found) (q : ℕ) → Chosen Flags s t i marks f → f ≡ At q → i < format.items → format.items - q < format.items - i
+pub chosen_falls : (s t : List ℕ) (i : ℕ) (marks : State) (f : Option ℕ) (q : ℕ) → Chosen Flags s t i marks f → f ≡ Some q → i < format.items → format.items - q < format.items - i
 chosen_falls s t i marks f q chosen is less = let h = chosen.later q is in omega arith
 
 -- What is at the item's place opens a branching.

@@ -1,5 +1,5 @@
 -- The guide that the code's values stand for.
-use Rattle.std.specs.Prelude.{ℕ, ◌-◌, ◌<◌, ◌≡◌, Bool, List, [], ◌++◌, length, take, replicate, eqb, ltb, leb}
+use Rattle.std.specs.Prelude.{ℕ, ◌-◌, ◌<◌, ◌≡◌, Bool, Option, Some, None, List, [], ◌++◌, length, take, replicate, eqb, ltb, leb}
 use Rattle.meaning.specs.declared.Answer.{Answer}
 use Rattle.meaning.specs.Tests.{pick, both, either, each_of}
 use Rattle.meaning.specs.Limits.{format}
@@ -38,30 +38,31 @@ pub record ItemThere (s t : List ℕ) (i : ℕ) : Type 0 where
 unfoldable pub ActionThere : (s t : List ℕ) → Code.Ahead → Type 0
 ActionThere s t r = elim r [ End ↦ Unit {0} | Action i ↦ ItemThere s t i | NoBranch ↦ Unit {0} ]
 
--- The fluents whose readings come after an action; the limit of actions stands for none.
-unfoldable pub asked_by : Table → (action : ℕ) → List ℕ
-asked_by t a = pick (ltb a format.actions) (λ _. sensed format t a) (λ _. [])
+-- The fluents whose readings come after an action, and none where there was no action.
+unfoldable pub asked_by : Table → (action : Option ℕ) → List ℕ
+asked_by t None = []
+asked_by t (Some a) = pick (ltb a format.actions) (λ _. sensed format t a) (λ _. [])
 
 -- Fluents as the code tells them (FORMAT 25.51): so many, at the start of the row, and 0 behind them.
 unfoldable pub fluents_of : List ℕ → Fluents
 fluents_of fs = record { count = length fs; row = fs ++ replicate (format.fluents - length fs) 0 }
 
 -- A GUIDE ON ITS WAY, of a request at hand.
-unfoldable pub on_the_way : (s t : List ℕ) → (action position : ℕ) → State → Guide
+unfoldable pub on_the_way : (s t : List ℕ) → (action : Option ℕ) → (position : ℕ) → State → Guide
 on_the_way s t a i marks = going (table_in Flags s) (asked_by (table_in Flags s) a) (rest_at (plan_in Flags s t) i) marks
 
 -- What a call makes of the guide g: `on` is the guide that goes on, by its action, position and marks.
-unfoldable pub guide_after : (on : (action position : ℕ) → State → Guide) → Guide → Step → Told → Guide
+unfoldable pub guide_after : (on : (action : Option ℕ) → (position : ℕ) → State → Guide) → Guide → Step → Told → Guide
 guide_after on g r told = elim told [ Do a ↦ on r.action r.at r.marks | Done ↦ ended r.marks | Refused x ↦ g ]
 
-unfoldable pub turned : (on : (action position : ℕ) → State → Guide) → Guide → Step → Turn
+unfoldable pub turned : (on : (action : Option ℕ) → (position : ℕ) → State → Guide) → Guide → Step → Turn
 turned on g r = record { guide = guide_after on g r r.told; told = r.told }
 
 -- What is made of any guide of a request at hand: in a state, by what comes next; and by a call.
 unfoldable pub meets : (s : List ℕ) → State → Ahead → Guide → Turn
 meets s state x g = met format (table_in Flags s) g state x
 
-unfoldable pub takes : (s t : List ℕ) → (action position : ℕ) → State → (readings : List ℕ) → Guide → Turn
+unfoldable pub takes : (s t : List ℕ) → (action : Option ℕ) → (position : ℕ) → State → (readings : List ℕ) → Guide → Turn
 takes s t a i marks bytes g = take_over format (table_in Flags s) g (asked_by (table_in Flags s) a) (rest_at (plan_in Flags s t) i) marks bytes
 
 -- Where an action is answered, the guide goes on from a position of the plan, with marks.
@@ -84,12 +85,12 @@ is_position b i = either (eqb i format.items) (ltb i (items_of b))
 unfoldable pub is_marked : State → Bool
 is_marked marks = each_of (λ m. leb m 2) marks
 
-unfoldable pub guide_got : (action position : ℕ) → State → Got Request → Guide
+unfoldable pub guide_got : (action : Option ℕ) → (position : ℕ) → State → Got Request → Guide
 guide_got a i marks (got r e) =
     pick (both (is_position r.plan i) (is_marked marks)) (λ _. going r.table (asked_by r.table a) (rest_at r.plan i) marks) (λ _. refusing (of_guide not_verified))
 guide_got a i marks (fault n p) = refusing (of_request n p)
 
-unfoldable pub guide_held : (request : List ℕ) → (action position : ℕ) → State → Guide
+unfoldable pub guide_held : (request : List ℕ) → (action : Option ℕ) → (position : ℕ) → State → Guide
 guide_held request a i marks = guide_got a i marks (settled format request)
 
 -- A guide of a settled request, at its start.
@@ -100,12 +101,8 @@ pub record Begins (request : List ℕ) (g : Guide) : Type 0 where
 unfoldable pub request_of : Held.Guide → List ℕ
 request_of g = take g.length g.request
 
--- Where the first n bytes of the row end: it has no more than a request may have.
-unfoldable pub row_end : (n : ℕ) → ℕ
-row_end n = pick (ltb n format.request) (λ _. n) (λ _. format.request)
-
 unfoldable pub guide_at : Held.Guide → Stage → Guide
-guide_at g stage = elim stage [ Refusing ↦ refusing g.answer | Going ↦ guide_held (request_of g) g.action g.at g.marks | Ended ↦ ended g.marks ]
+guide_at g stage = elim stage [ Refusing x ↦ refusing x | Going a i marks ↦ guide_held (request_of g) a i marks | Ended marks ↦ ended marks ]
 
 unfoldable pub guide_of : Held.Guide → Guide
 guide_of g = guide_at g g.stage

@@ -1,8 +1,8 @@
-ghost use Rattle.std.specs.Prelude.{◌≡◌, ◌<◌};
+ghost use Rattle.std.specs.Prelude.{◌≡◌, ◌<◌, Some};
 ghost use Rattle.meaning.specs.Limits.{format};
 ghost use Rattle.walking.specs.Walks.{action_at};
 ghost use Rattle.steps.specs.Held.{plan_in};
-ghost use Rattle.steps.specs.AtHand.{AtHand, Marked};
+ghost use Rattle.steps.specs.AtHand.{Marked};
 ghost use Rattle.steps.specs.Rests.{rest_at, after_first, Position};
 ghost use Rattle.guidance.specs.declared.Told.TheVariants.{Refused};
 ghost use Rattle.guidance.specs.Guides.{of_guide, an_action, ahead};
@@ -10,29 +10,28 @@ ghost use Rattle.guide.specs.GuideHeld.{came, ItemThere, ActionThere, meets, tak
 ghost use Rattle.meaning.specs.declared.Form.TheVariants.{Flags};
 
 use super::sensed::{is_against, sensed_by, taken_over};
-use finding::places::Found;
 use guidance::Told;
-use meaning::{Answer, Form};
+use meaning::Answer;
 use parsing::bytes::wide;
 use parsing::limits;
+use parsing::shapes::OfFlags;
 use reading::marks::Marks;
 use reading::notes;
-use reading::notes::{Notes, get};
+use reading::notes::get;
 use steps::actions::{can_be_run, state_after};
 use steps::onward::{chosen, follow};
+use steps::request::Request;
 use steps::sensing::is_sensing;
 use verdicts::answers;
 use verdicts::answers::uncounted;
 
 // The answers that a guide alone gives (FORMAT 25.5, 25.13, 25.14).
+// Kept: an answer's number is a byte of `Answer`, as the definitions have it.
 pub const NOT_VERIFIED: u8 = 40;
 
 pub const WRONG_NUMBER: u8 = 41;
 
 pub const AGAINST_KNOWN: u8 = 42;
-
-// This stands for no action: the next call brings no readings.
-pub const NO_ACTION: usize = limits::ACTIONS;
 
 // What comes next: the plan's end; an action, by the number of its item; or a branching that has no condition known true.
 #[derive(Clone, Copy)]
@@ -43,38 +42,31 @@ pub(crate) enum Ahead {
 }
 
 // What comes next from a position of the plan on.
-pub(crate) fn look_ahead(s: &[u8], t: &Notes, at: usize, marks: &Marks) -> Ahead
-    requires at_hand { AtHand Flags s.now t.now }
-    requires position { Position (plan_in Flags s.now t.now) at }
+pub(crate) fn look_ahead(r: &Request<OfFlags>, at: usize, marks: &Marks) -> Ahead
+    requires position { Position (plan_in Flags r.now.bytes.now r.now.notes.now) at }
     requires marked { Marked marks.now }
-    ensures result_value { came s.now t.now result ≡ ahead marks.now (rest_at (plan_in Flags s.now t.now) at) }
-    ensures action_there { ActionThere s.now t.now result }
+    ensures result_value { came r.now.bytes.now r.now.notes.now result ≡ ahead marks.now (rest_at (plan_in Flags r.now.bytes.now r.now.notes.now) at) }
+    ensures action_there { ActionThere r.now.bytes.now r.now.notes.now result }
 {
     let mut i = at;
     while i < limits::ITEMS {
-        let slot = notes::ITEM_PLACE + i;
-        let p = get(t, slot);
-        if s[p] == limits::BRANCHING_BYTE {
-            match chosen(Form::Flags, s, t, i, marks) {
-                Found::At(j) => {
-                    i = j;
-                    continue;
-                }
-                Found::Nowhere => {
-                    return Ahead::NoBranch;
-                }
-            }
+        if r.bytes[get(r.notes, notes::ITEM_PLACE + i)] != limits::BRANCHING_BYTE {
+            return Ahead::Action(i);
         }
-        return Ahead::Action(i);
+        match chosen(r, i, marks) {
+            Some(j) => i = j,
+            None => return Ahead::NoBranch,
+        }
     }
     Ahead::End
 }
 
-// What a call makes of a guide that is on its way: its answer, and where it goes on. Where it refuses, the guide stays as it was, and only the answer counts.
+// What a call makes of a guide that is on its way: its answer, and where it goes on, with the action whose readings come next. Where it refuses, the guide stays as it was, and
+// only the answer counts.
 #[derive(Clone, Copy)]
 pub(crate) struct Step {
     pub told: Told,
-    pub action: usize,
+    pub action: Option<usize>,
     pub at: usize,
     pub marks: Marks,
 }
@@ -85,7 +77,7 @@ pub(crate) fn refused(answer: Answer) -> Step
 {
     Step {
         told: Told::Refused(answer),
-        action: NO_ACTION,
+        action: None,
         at: limits::ITEMS,
         marks: [limits::UNKNOWN_MARK; limits::FLUENTS],
     }
@@ -99,97 +91,85 @@ pub(crate) fn refused_step(number: u8) -> Step
 }
 
 // Answers the action that is item i, in the state `state`.
-fn do_item(s: &[u8], t: &Notes, i: usize, state: &Marks) -> Step
-    requires at_hand { AtHand Flags s.now t.now }
-    requires item_there { ItemThere s.now t.now i }
+fn do_item(r: &Request<OfFlags>, i: usize, state: &Marks) -> Step
+    requires item_there { ItemThere r.now.bytes.now r.now.notes.now i }
     requires marked { Marked state.now }
-    ensures { Turns s.now t.now result (meets s.now state.now (an_action (action_at s.now t.now i) (after_first (rest_at (plan_in Flags s.now t.now) i)))) }
+    ensures { Turns r.now.bytes.now r.now.notes.now result (meets r.now.bytes.now state.now (an_action (action_at r.now.bytes.now r.now.notes.now i) (after_first (rest_at (plan_in Flags r.now.bytes.now r.now.notes.now) i)))) }
 {
-    let slot = notes::ITEM_PLACE + i;
-    let p = get(t, slot);
-    let a = wide(s[p]);
-    let runs = can_be_run(s, t, a, state);
-    if runs {
-        let next = follow(Form::Flags, s, t, i);
-        let sensing = is_sensing(Form::Flags, s, t, a);
-        if sensing {
-            return Step {
-                told: Told::Do(a),
-                action: a,
-                at: next,
-                marks: *state,
-            };
-        }
-        let after = state_after(s, t, a, state);
-        return Step {
-            told: Told::Do(a),
-            action: a,
-            at: next,
-            marks: after,
-        };
+    let a = wide(r.bytes[get(r.notes, notes::ITEM_PLACE + i)]);
+    if !can_be_run(r, a, state) {
+        return refused_step(NOT_VERIFIED);
     }
-    refused_step(NOT_VERIFIED)
+    let next = follow(r, i);
+    let marks = if is_sensing(r, a) {
+        *state
+    } else {
+        state_after(r, a, state)
+    };
+    Step {
+        told: Told::Do(a),
+        action: Some(a),
+        at: next,
+        marks,
+    }
 }
 
 // From the position `at` on, in the state `state`.
-fn go_on(s: &[u8], t: &Notes, at: usize, state: &Marks) -> Step
-    requires at_hand { AtHand Flags s.now t.now }
-    requires position { Position (plan_in Flags s.now t.now) at }
+fn go_on(r: &Request<OfFlags>, at: usize, state: &Marks) -> Step
+    requires position { Position (plan_in Flags r.now.bytes.now r.now.notes.now) at }
     requires marked { Marked state.now }
-    ensures { Turns s.now t.now result (meets s.now state.now (ahead state.now (rest_at (plan_in Flags s.now t.now) at))) }
+    ensures { Turns r.now.bytes.now r.now.notes.now result (meets r.now.bytes.now state.now (ahead state.now (rest_at (plan_in Flags r.now.bytes.now r.now.notes.now) at))) }
 {
-    match look_ahead(s, t, at, state) {
+    match look_ahead(r, at, state) {
         Ahead::End => Step {
             told: Told::Done,
-            action: NO_ACTION,
-            at: at,
+            action: None,
+            at,
             marks: *state,
         },
-        Ahead::Action(i) => do_item(s, t, i, state),
+        Ahead::Action(i) => do_item(r, i, state),
         Ahead::NoBranch => refused_step(NOT_VERIFIED),
     }
 }
 
 // A call of a guide that waits at `at`, with `marks`, for the readings of `action`.
-fn step_after(s: &[u8], t: &Notes, action: usize, at: usize, marks: &Marks, readings: &[u8]) -> Step
-    requires at_hand { AtHand Flags s.now t.now }
-    requires action_lt_actions { action < format.actions }
-    requires position { Position (plan_in Flags s.now t.now) at }
-    requires marked { Marked marks.now }
-    ensures { Turns s.now t.now result (takes s.now t.now action at marks.now readings.now) }
-{
-    let asked = sensed_by(s, t, action);
-    let due = asked.count;
-    if readings.len() != due {
-        return refused_step(WRONG_NUMBER);
-    }
-    let wrong = is_against(s, t, action, marks, readings);
-    if wrong {
-        return refused_step(AGAINST_KNOWN);
-    }
-    let state = taken_over(s, t, action, marks, readings);
-    go_on(s, t, at, &state)
-}
-
-// A call of a guide that is on its way, after an action or without one.
-pub(crate) fn answer_call(
-    s: &[u8],
-    t: &Notes,
+fn step_after(
+    r: &Request<OfFlags>,
     action: usize,
     at: usize,
     marks: &Marks,
     readings: &[u8],
 ) -> Step
-    requires at_hand { AtHand Flags s.now t.now }
-    requires position { Position (plan_in Flags s.now t.now) at }
+    requires action_lt_actions { action < format.actions }
+    requires position { Position (plan_in Flags r.now.bytes.now r.now.notes.now) at }
     requires marked { Marked marks.now }
-    ensures { Turns s.now t.now result (takes s.now t.now action at marks.now readings.now) }
+    ensures { Turns r.now.bytes.now r.now.notes.now result (takes r.now.bytes.now r.now.notes.now (Some action) at marks.now readings.now) }
 {
-    if action < limits::ACTIONS {
-        return step_after(s, t, action, at, marks, readings);
-    }
-    if readings.len() != 0 {
+    if readings.len() != sensed_by(r, action).count {
         return refused_step(WRONG_NUMBER);
     }
-    go_on(s, t, at, marks)
+    if is_against(r, action, marks, readings) {
+        return refused_step(AGAINST_KNOWN);
+    }
+    let state = taken_over(r, action, marks, readings);
+    go_on(r, at, &state)
+}
+
+// A call of a guide that is on its way, after an action or without one.
+pub(crate) fn answer_call(
+    r: &Request<OfFlags>,
+    action: Option<usize>,
+    at: usize,
+    marks: &Marks,
+    readings: &[u8],
+) -> Step
+    requires position { Position (plan_in Flags r.now.bytes.now r.now.notes.now) at }
+    requires marked { Marked marks.now }
+    ensures { Turns r.now.bytes.now r.now.notes.now result (takes r.now.bytes.now r.now.notes.now action at marks.now readings.now) }
+{
+    match action {
+        Some(a) if a < limits::ACTIONS => step_after(r, a, at, marks, readings),
+        _ if !readings.is_empty() => refused_step(WRONG_NUMBER),
+        _ => go_on(r, at, marks),
+    }
 }

@@ -3,10 +3,10 @@ ghost use Rattle.meaning.specs.Limits.{format};
 ghost use Rattle.guidance.specs.Guides.{refused_start, start, next};
 ghost use Rattle.guidance.specs.Guided.{asked_for};
 ghost use Rattle.guide.specs.declared.guides.Stage.TheVariants.{Going};
-ghost use Rattle.guide.specs.GuideHeld.{fluents_of, guide_held, turned, row_end, request_of, guide_of, started_of, turn_of, Begins, KeptGuide, OwnCopy};
+ghost use Rattle.guide.specs.GuideHeld.{fluents_of, request_of, guide_of, started_of, turn_of, Begins, KeptGuide, OwnCopy};
 
 use super::calls::{asked, at_start, call, none_asked};
-use super::going::{NO_ACTION, NOT_VERIFIED, Step};
+use super::going::NOT_VERIFIED;
 use super::sensed::Fluents;
 use glintstring::judging::judge;
 use guidance::Told;
@@ -16,25 +16,26 @@ use reading::marks::Marks;
 use verdicts::answers;
 use verdicts::answers::uncounted;
 
-// A guide was refused, or is on its way, or has come to the plan's end.
+// A guide was refused, with the answer that it gives; or is on its way, with the action whose readings the next call brings, the position in the plan and what is known; or
+// has come to the plan's end, with what is known there.
 #[derive(Clone, Copy)]
 pub enum Stage {
-    Refusing,
-    Going,
-    Ended,
+    Refusing(Answer),
+    Going {
+        action: Option<usize>,
+        at: usize,
+        marks: Marks,
+    },
+    Ended(Marks),
 }
 
-// A guide: its own copy of the request, which is the first `length` bytes of the row; the answer that it gives where it was refused; and where it is on its way the action
-// whose readings the next call brings, the position in the plan and what is known.
+// A guide: its own copy of the request, which is the first `length` bytes of the row, and how far it has come.
+// Kept: no heap is used, so that the copy has its length beside it.
 #[derive(Clone, Copy)]
 pub struct Guide {
     request: [u8; limits::REQUEST],
     length: usize,
     stage: Stage,
-    answer: Answer,
-    action: usize,
-    at: usize,
-    marks: Marks,
 }
 
 // What a start gives, and what a call gives.
@@ -50,59 +51,13 @@ pub struct Turn {
     pub told: Told,
 }
 
-// The first so many bytes of a row end here: the row has no more than a request may have.
-fn row_end(length: usize) -> usize
-    ensures { result ≡ row_end length }
-{
-    if length < limits::REQUEST {
-        return length;
-    }
-    limits::REQUEST
-}
-
-// A call, of the request that is the start of a row. A reference does not tell how long the row is, but a slice does.
-fn call_of(
-    row: &[u8; limits::REQUEST],
-    length: usize,
-    action: usize,
-    at: usize,
-    marks: &Marks,
-    readings: &[u8],
-) -> Step
-    ensures { turned (guide_held (take length row.now)) (guide_held (take length row.now) action at marks.now) result ≡ next format (guide_held (take length row.now) action at marks.now) readings.now }
-{
-    let whole: &[u8] = row;
-    let end = row_end(length);
-    call(&whole[..end], action, at, marks, readings)
-}
-
-// The fluents whose readings the next call brings, of the request that is the start of a row.
-fn asked_of(
-    row: &[u8; limits::REQUEST],
-    length: usize,
-    action: usize,
-    at: usize,
-    marks: &Marks,
-) -> Fluents
-    ensures { result ≡ fluents_of (asked_for (guide_held (take length row.now) action at marks.now)) }
-{
-    let whole: &[u8] = row;
-    let end = row_end(length);
-    asked(&whole[..end], action, at, marks)
-}
-
 // A row with these bytes at its start.
 fn copied(request: &[u8]) -> [u8; limits::REQUEST]
     requires { length request.now ≤ format.request }
     ensures { take (length request.now) result ≡ request.now }
 {
     let mut row = [0u8; limits::REQUEST];
-    let end = request.len();
-    let mut i = 0;
-    while i < end {
-        row[i] = request[i];
-        i += 1;
-    }
+    row[..request.len()].copy_from_slice(request);
     row
 }
 
@@ -115,13 +70,9 @@ fn refused_start(answer: Answer) -> Started
         guide: Guide {
             request: [0u8; limits::REQUEST],
             length: 0,
-            stage: Stage::Refusing,
-            answer: answer,
-            action: NO_ACTION,
-            at: limits::ITEMS,
-            marks: [limits::UNKNOWN_MARK; limits::FLUENTS],
+            stage: Stage::Refusing(answer),
         },
-        answer: answer,
+        answer,
     }
 }
 
@@ -139,58 +90,44 @@ fn begun(request: &[u8], answer: Answer) -> Started
         guide: Guide {
             request: row,
             length: request.len(),
-            stage: Stage::Going,
-            answer: answer,
-            action: NO_ACTION,
-            at: start.at,
-            marks: marks,
+            stage: Stage::Going {
+                action: None,
+                at: start.at,
+                marks,
+            },
         },
-        answer: answer,
+        answer,
     }
 }
 
 // A call of a guide that is on its way. A refusal hands back what was given.
-fn moved(g: Guide, readings: &[u8]) -> Turn
-    requires { g.stage ≡ Going }
+fn moved(g: Guide, action: Option<usize>, at: usize, known: &Marks, readings: &[u8]) -> Turn
+    requires { g.stage ≡ Going action at known.now }
     ensures result_value { turn_of result ≡ next format (guide_of g) readings.now }
     ensures kept_guide { KeptGuide g result }
 {
-    let row = g.request;
+    let request = g.request;
     let length = g.length;
-    let known = g.marks;
-    let answer = g.answer;
-    let step = call_of(&row, length, g.action, g.at, &known, readings);
+    let own = &request[..length.min(limits::REQUEST)];
+    let step = call(own, action, at, known, readings);
     let told = step.told;
     let marks = step.marks;
-    match told {
-        Told::Do(_) => Turn {
-            guide: Guide {
-                request: row,
-                length: length,
-                stage: Stage::Going,
-                answer: answer,
-                action: step.action,
-                at: step.at,
-                marks: marks,
-            },
-            told: told,
+    let stage = match told {
+        Told::Do(_) => Stage::Going {
+            action: step.action,
+            at: step.at,
+            marks,
         },
-        Told::Done => Turn {
-            guide: Guide {
-                request: row,
-                length: length,
-                stage: Stage::Ended,
-                answer: answer,
-                action: step.action,
-                at: step.at,
-                marks: marks,
-            },
-            told: told,
+        Told::Done => Stage::Ended(marks),
+        Told::Refused(_) => g.stage,
+    };
+    Turn {
+        guide: Guide {
+            request,
+            length,
+            stage,
         },
-        Told::Refused(_) => Turn {
-            guide: g,
-            told: told,
-        },
+        told,
     }
 }
 
@@ -218,17 +155,13 @@ impl Guide {
         ensures given { turn_of result ≡ next format (guide_of self) readings.now }
         ensures kept { KeptGuide self result }
     {
-        let stage = self.stage;
-        match stage {
-            Stage::Refusing => {
-                let answer = self.answer;
-                Turn {
-                    guide: self,
-                    told: Told::Refused(answer),
-                }
-            }
-            Stage::Going => moved(self, readings),
-            Stage::Ended => Turn {
+        match self.stage {
+            Stage::Refusing(answer) => Turn {
+                guide: self,
+                told: Told::Refused(answer),
+            },
+            Stage::Going { action, at, marks } => moved(self, action, at, &marks, readings),
+            Stage::Ended(_) => Turn {
                 guide: self,
                 told: Told::Done,
             },
@@ -239,16 +172,14 @@ impl Guide {
     pub fn asks(self) -> Fluents
         ensures { result ≡ fluents_of (asked_for (guide_of self)) }
     {
-        let stage = self.stage;
-        match stage {
-            Stage::Refusing => none_asked(),
-            Stage::Going => {
-                let row = self.request;
-                let length = self.length;
-                let known = self.marks;
-                asked_of(&row, length, self.action, self.at, &known)
+        match self.stage {
+            Stage::Going { action, at, marks } => {
+                let request = self.request;
+                let own = &request[..self.length.min(limits::REQUEST)];
+                asked(own, action, at, &marks)
             }
-            Stage::Ended => none_asked(),
+            Stage::Refusing(_) => none_asked(),
+            Stage::Ended(_) => none_asked(),
         }
     }
 }

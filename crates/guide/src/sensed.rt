@@ -2,17 +2,19 @@ ghost use Rattle.std.specs.Prelude.{◌≡◌, ◌<◌, length};
 ghost use Rattle.meaning.specs.Limits.{format};
 ghost use Rattle.meaning.specs.States.{mark_of, told_all};
 ghost use Rattle.steps.specs.Held.{table_in};
-ghost use Rattle.steps.specs.AtHand.{AtHand, Marked};
+ghost use Rattle.steps.specs.AtHand.{Marked};
 ghost use Rattle.guidance.specs.Guides.{sensed, literal_read, literals_read, against};
 ghost use Rattle.guide.specs.GuideHeld.{fluents_of};
 ghost use Rattle.meaning.specs.declared.Form.TheVariants.{Flags};
 
 use parsing::limits;
+use parsing::shapes::OfFlags;
 use reading::marks::Marks;
-use reading::notes::Notes;
+use steps::request::Request;
 use steps::sensing::looks_at;
 
 // The fluents whose readings a call brings: so many, from the start of the row on, ascending, and 0 behind them.
+// Kept: no heap is used, so that a list has its number beside it.
 #[derive(Clone, Copy)]
 pub struct Fluents {
     pub count: usize,
@@ -20,27 +22,19 @@ pub struct Fluents {
 }
 
 // Those that the action senses.
-pub(crate) fn sensed_by(s: &[u8], t: &Notes, a: usize) -> Fluents
-    requires at_hand { AtHand Flags s.now t.now }
-    requires a_lt_actions { a < format.actions }
-    ensures { result ≡ fluents_of (sensed format (table_in Flags s.now) a) }
+pub(crate) fn sensed_by(r: &Request<OfFlags>, a: usize) -> Fluents
+    requires { a < format.actions }
+    ensures { result ≡ fluents_of (sensed format (table_in Flags r.now.bytes.now) a) }
 {
     let mut row = [0u8; limits::FLUENTS];
     let mut count = 0;
-    let mut f = 0;
-    while f < limits::FLUENTS {
-        let here = f;
-        f += 1;
-        let sensed = looks_at(s, t, a, here);
-        if sensed {
-            row[count] = here as u8;
+    for f in 0..limits::FLUENTS {
+        if looks_at(r, a, f) {
+            row[count] = f as u8;
             count += 1;
         }
     }
-    Fluents {
-        count: count,
-        row: row,
-    }
+    Fluents { count, row }
 }
 
 // The mark that a reading gives its fluent, whichever it is: the byte 0 says no, and every other yes.
@@ -55,24 +49,19 @@ fn mark_read(byte: u8) -> u8
 }
 
 // Some reading is against a known fluent.
-pub(crate) fn is_against(s: &[u8], t: &Notes, a: usize, marks: &Marks, readings: &[u8]) -> bool
-    requires at_hand { AtHand Flags s.now t.now }
+pub(crate) fn is_against(r: &Request<OfFlags>, a: usize, marks: &Marks, readings: &[u8]) -> bool
     requires a_lt_actions { a < format.actions }
     requires marked { Marked marks.now }
-    requires readings_len { length readings.now ≡ length (sensed format (table_in Flags s.now) a) }
-    ensures { result ≡ against marks.now (literals_read (sensed format (table_in Flags s.now) a) readings.now) }
+    requires readings_len { length readings.now ≡ length (sensed format (table_in Flags r.now.bytes.now) a) }
+    ensures { result ≡ against marks.now (literals_read (sensed format (table_in Flags r.now.bytes.now) a) readings.now) }
 {
     let mut i = 0;
-    let mut f = 0;
-    while f < limits::FLUENTS {
-        let here = f;
-        f += 1;
-        let sensed = looks_at(s, t, a, here);
-        if sensed {
+    // Kept: a reading is taken for a sensed fluent alone, so that `any` would have to count the readings in its closure.
+    for f in 0..limits::FLUENTS {
+        if looks_at(r, a, f) {
             let mark = mark_read(readings[i]);
             i += 1;
-            let other = 3 - mark;
-            if marks[here] == other {
+            if marks[f] == 3 - mark {
                 return true;
             }
         }
@@ -81,23 +70,18 @@ pub(crate) fn is_against(s: &[u8], t: &Notes, a: usize, marks: &Marks, readings:
 }
 
 // The state with every reading taken over.
-pub(crate) fn taken_over(s: &[u8], t: &Notes, a: usize, marks: &Marks, readings: &[u8]) -> Marks
-    requires at_hand { AtHand Flags s.now t.now }
+pub(crate) fn taken_over(r: &Request<OfFlags>, a: usize, marks: &Marks, readings: &[u8]) -> Marks
     requires a_lt_actions { a < format.actions }
     requires marked { Marked marks.now }
-    requires readings_len { length readings.now ≡ length (sensed format (table_in Flags s.now) a) }
-    ensures value { result ≡ told_all (literals_read (sensed format (table_in Flags s.now) a) readings.now) marks.now }
+    requires readings_len { length readings.now ≡ length (sensed format (table_in Flags r.now.bytes.now) a) }
+    ensures value { result ≡ told_all (literals_read (sensed format (table_in Flags r.now.bytes.now) a) readings.now) marks.now }
     ensures marked_2 { Marked result }
 {
     let mut state = *marks;
     let mut i = 0;
-    let mut f = 0;
-    while f < limits::FLUENTS {
-        let here = f;
-        f += 1;
-        let sensed = looks_at(s, t, a, here);
-        if sensed {
-            state[here] = mark_read(readings[i]);
+    for f in 0..limits::FLUENTS {
+        if looks_at(r, a, f) {
+            state[f] = mark_read(readings[i]);
             i += 1;
         }
     }

@@ -1,141 +1,108 @@
 // The actions of the plan, one after the other, and the readings of those that sense (FORMAT 25.17 to 25.19).
-ghost use Rattle.guide_program.specs.Typed.{Kept};
+ghost use Rattle.std.specs.Prelude.{◌≤◌, length, IfOk, IfSome};
 
-use super::saying::{prompt, put_fluents, say, say_refused};
-use super::typed::{Line, MOST, ROW, read_line};
+use super::saying::{listed, prompt, say_refused};
+use super::typed::{Line, ROW, read_line};
 use guidance::Told;
-use guide::guides::Guide;
+use guide::guides::{Guide, Turn};
 use guide::sensed::Fluents;
-use programs::{fail, put, put_number};
+use programs::Program;
 use std::io;
-use std::io::{Read, Write};
+use std::io::Read;
 
-// How a run ends: the plan is done; the start was refused, or there is no line of readings any more; or something failed, which is said.
+// How a run ends: the plan is done; or the start was refused, or there is no line of readings any more.
 #[derive(Clone, Copy)]
 pub enum Ending {
     Done,
     Early,
-    Failed,
 }
 
-fn put_action(rt: &impl Print, action: usize, asked: Fluents) -> io::Result<()> {
-    put(rt, b"do ")?;
-    put_number(rt, action as u64)?;
-    put_fluents(&mut io::writer(rt), asked)?;
-    put(rt, b"\n")
+// What failed in a run: standard input or output, which is said; or standard error, on which nothing can be said.
+#[derive(Clone, Copy)]
+enum Failure {
+    Input(io::Error),
+    Output(io::Error),
+    Unsaid,
 }
 
-// Says why a line is not taken.
-fn say_line<E: Write>(err: &mut E, line: Line) -> io::Result<()> {
-    match line {
-        Line::Other => say(
-            err,
-            b"a line of readings has 0 and 1 and spaces between them",
-        ),
-        Line::TooLong => say(err, b"a line of readings has no more than 1024 bytes"),
-        _ => Ok(()),
-    }
+fn put_action(rt: &impl Print, action: usize, asked: &Fluents) -> io::Result<()> {
+    let fluents = listed(asked);
+    println!(rt; "do {action}{fluents}")
 }
 
-// Another line is to be read after this one.
-fn is_again(line: Line) -> bool {
-    match line {
-        Line::Other => true,
-        Line::TooLong => true,
-        _ => false,
-    }
-}
-
-// Asks for a line where somebody is to be asked, and reads it.
-fn ask_once<I: Read, E: Write>(
+// Reads lines until one has readings, and gives their number; or there is none any more. It asks for a line where somebody is to be asked, and says why one is not taken.
+fn ask<R, I: Read>(
+    program: &Program<'_, R>,
     input: &mut I,
-    err: &mut E,
-    asked: Fluents,
+    asked: &Fluents,
     prompts: bool,
     row: &mut [u8],
-) -> Line
-    ensures { Kept result row.new }
+) -> Result<Option<usize>, Failure>
+    ensures { IfOk result (λ readings. IfSome readings (λ n. n ≤ length row.new)) }
 {
-    if prompts && prompt(err, asked).is_err() {
-        return Line::Unsaid;
-    }
-    let line = read_line(input, row);
-    if is_again(line) && say_line(err, line).is_err() {
-        return Line::Unsaid;
-    }
-    line
-}
-
-// Reads lines until one has readings, or there is none any more.
-fn ask<I: Read, E: Write>(
-    input: &mut I,
-    err: &mut E,
-    asked: Fluents,
-    prompts: bool,
-    row: &mut [u8],
-) -> Line
-    ensures { Kept result row.new }
-{
-    for _ in 0..MOST {
-        let line = ask_once(input, err, asked, prompts, row);
-        if !is_again(line) {
-            return line;
+    for _ in 0..u64::MAX {
+        if prompts {
+            prompt(program, asked).map_err(|_| Failure::Unsaid)?;
         }
+        let said = match read_line(input, row).map_err(Failure::Input)? {
+            Line::Readings(n) => return Ok(Some(n)),
+            Line::End => return Ok(None),
+            Line::Other => program.say("a line of readings has 0 and 1 and spaces between them"),
+            Line::TooLong => program.say("a line of readings has no more than 1024 bytes"),
+        };
+        said.map_err(|_| Failure::Unsaid)?;
     }
-    Line::End
-}
-
-fn failed<E: Write>(err: &mut E, stream: &[u8], error: io::Error) -> Ending {
-    fail(err, stream, error);
-    Ending::Failed
+    Ok(None)
 }
 
 // Calls the guide until the plan is done.
-pub fn lead<R: Print + io::Input, E: Write>(
-    rt: &R,
-    err: &mut E,
+fn run<R: Print + io::Input>(
+    program: &Program<'_, R>,
     guide: Guide,
     prompts: bool,
-) -> Ending {
+) -> Result<Ending, Failure> {
+    let rt = program.rt;
     let mut input = rt.reader();
     let mut row = [0u8; ROW];
     let mut count = 0;
     let mut here = guide;
-    let mut calls = 0u64;
-    while calls < MOST {
-        calls += 1;
-        let turn = here.next(&row[..count]);
-        let told = turn.told;
-        here = turn.guide;
+    for _ in 0..u64::MAX {
+        let Turn { guide, told } = here.next(&row[..count]);
+        here = guide;
         let asked = here.asks();
         match told {
             Told::Do(action) => {
-                if let Err(error) = put_action(rt, action, asked) {
-                    return failed(err, b"guide: standard output", error);
-                }
+                put_action(rt, action, &asked).map_err(Failure::Output)?;
                 if asked.count == 0 {
                     count = 0;
                     continue;
                 }
             }
             Told::Done => {
-                return match put(rt, b"done\n") {
-                    Ok(()) => Ending::Done,
-                    Err(error) => failed(err, b"guide: standard output", error),
-                };
+                rt.println("done").map_err(Failure::Output)?;
+                return Ok(Ending::Done);
             }
-            Told::Refused(answer) => {
-                if say_refused(err, answer).is_err() {
-                    return Ending::Failed;
-                }
-            }
+            Told::Refused(answer) => say_refused(program, answer).map_err(|_| Failure::Unsaid)?,
         }
-        match ask(&mut input, err, asked, prompts, &mut row) {
-            Line::Readings(n) => count = n,
-            Line::Unreadable(error) => return failed(err, b"guide: standard input", error),
-            Line::Unsaid => return Ending::Failed,
-            _ => return Ending::Early,
-        }
+        let Some(n) = ask(program, &mut input, &asked, prompts, &mut row)? else {
+            break;
+        };
+        count = n;
     }
-    Ending::Early
+    Ok(Ending::Early)
+}
+
+// How the run ends; or nothing where something failed, which is said.
+pub fn lead<R: Print + io::Input>(
+    program: &Program<'_, R>,
+    guide: Guide,
+    prompts: bool,
+) -> Option<Ending> {
+    match run(program, guide, prompts) {
+        Ok(ending) => return Some(ending),
+        Err(Failure::Input(error)) => program.fail("standard input", error),
+        Err(Failure::Output(error)) => program.fail("standard output", error),
+        Err(Failure::Unsaid) => {}
+    }
+    None
 }

@@ -2,56 +2,53 @@
 use guide::going;
 use guide::sensed::Fluents;
 use meaning::Answer;
-use programs::put_counted;
-use programs::words::put_words;
-use std::io;
-use std::io::Write;
+use programs::words::InWords;
+use programs::{Counted, Program};
+use std::fmt::Display;
+use std::{fmt, io};
 use verdicts::answers;
 
-// A line with the program's name before it.
-pub fn say<E: Write>(err: &mut E, text: &[u8]) -> io::Result<()> {
-    err.write_all(b"guide: ")?;
-    err.write_all(text)?;
-    err.write_all(b"\n")
-}
+// A refusal in the words of a number that is a guide's own, or in those that every program has; with its number, and where it names a place with that too.
+#[derive(Clone, Copy)]
+struct Refusal(Answer);
 
-// The words of the numbers that are a guide's own, or those that every program has.
-fn put_guide_words<E: Write>(err: &mut E, number: u8) -> io::Result<()> {
-    match number {
-        going::NOT_VERIFIED => err.write_all(b"not verified"),
-        going::WRONG_NUMBER => err.write_all(b"wrong number of readings"),
-        going::AGAINST_KNOWN => err.write_all(b"reading against a known fluent"),
-        _ => put_words(err, number),
+impl Display for Refusal {
+    fn fmt<W: fmt::Write>(&self, f: &mut fmt::Formatter<W>) -> fmt::Result {
+        let Answer {
+            number,
+            input,
+            place,
+            ..
+        } = self.0;
+        // Kept: three numbers are a guide's own, and this is the list of their words, a number to a line.
+        let said = match number {
+            going::NOT_VERIFIED => "not verified",
+            going::WRONG_NUMBER => "wrong number of readings",
+            going::AGAINST_KNOWN => "reading against a known fluent",
+            _ => InWords(number).as_str(),
+        };
+        write!(f, "{said} ({number})")?;
+        if input == answers::THE_REQUEST {
+            write!(f, ", place {place}")?;
+        }
+        Ok(())
     }
 }
 
-fn put_place<E: Write>(err: &mut E, answer: Answer) -> io::Result<()> {
-    if answer.input == answers::THE_REQUEST {
-        let place = answer.place as u64;
-        return write!(err, ", place {place}");
-    }
-    Ok(())
-}
-
-// A refusal in words, with its number, and where it names a place with that too.
-pub fn say_refused<E: Write>(err: &mut E, answer: Answer) -> io::Result<()> {
-    let number = answer.number;
-    err.write_all(b"guide: ")?;
-    put_guide_words(err, number)?;
-    write!(err, " ({number})")?;
-    put_place(err, answer)?;
-    err.write_all(b"\n")
+pub fn say_refused<R>(program: &Program<'_, R>, answer: Answer) -> io::Result<()> {
+    program.say(Refusal(answer))
 }
 
 // The fluents that are asked for, each behind a space.
-pub fn put_fluents<W: Write>(to: &mut W, asked: Fluents) -> io::Result<()> {
-    let row = asked.row;
-    put_counted(to, &row, asked.count)
+pub fn listed(asked: &Fluents) -> Counted<'_> {
+    Counted {
+        row: &asked.row,
+        count: asked.count,
+    }
 }
 
 // What an operator at a terminal is asked before a line is read.
-pub fn prompt<E: Write>(err: &mut E, asked: Fluents) -> io::Result<()> {
-    err.write_all(b"0 or 1 for each of the fluents")?;
-    put_fluents(err, asked)?;
-    err.write_all(b": ")
+pub fn prompt<R>(program: &Program<'_, R>, asked: &Fluents) -> io::Result<()> {
+    let fluents = listed(asked);
+    print!(program.err; "0 or 1 for each of the fluents{fluents}: ")
 }

@@ -25,33 +25,35 @@ pub offset_read : (index : List ℕ) → ((i : ℕ) → Fits w8 (get_or index i 
 unfolding offset_at
 offset_read index bytes p r is = (is, omega (arith, (bytes p).fits, (bytes (p + 1)).fits))
 
--- THE OFFSETS behind a count: so many are left, from p up to the end, and come after i, numbered from n + 1 on.
-pub record Taking (index : List ℕ) (lines : ℕ) (whole : List ℕ) (end : ℕ) (t : List ℕ) (left p i n : ℕ) : Type 0 where
-  pub same : whole ≡ lines_taken lines i n (offsets_at index left p) t
+-- THE OFFSETS behind a count: so many of them are taken. The others stand from p up to the end, and come after i, numbered from n + 1 on.
+pub record Taking (index : List ℕ) (lines : ℕ) (whole : List ℕ) (end : ℕ) (t : List ℕ) (count taken p i n : ℕ) : Type 0 where
+  pub same : whole ≡ lines_taken lines i n (offsets_at index (count - taken) p) t
   pub near : i < line_numbers + format.actions
-  pub few : n + left < line_numbers
-  pub ends : p + 2 * left ≡ end
+  pub few : n + (count - taken) < line_numbers
+  pub ends : p + 2 * (count - taken) ≡ end
   pub inside : end ≤ length index
 
-pub taking_starts : (index : List ℕ) (q lines a k : ℕ) (t : List ℕ) (left : ℕ) → a < format.actions → after_counted index q ≤ length index → k + get_or index q 0 < line_numbers → left ≡ get_or index q 0
-    → Taking index lines (lines_taken lines (line_numbers + a) k (counted_at index q) t) (after_counted index q) t left (q + 1) (line_numbers + a) k
+pub taking_starts : (index : List ℕ) (q lines a k : ℕ) (t : List ℕ) (count : ℕ) → a < format.actions → after_counted index q ≤ length index → k + get_or index q 0 < line_numbers → count ≡ get_or index q 0
+    → Taking index lines (lines_taken lines (line_numbers + a) k (counted_at index q) t) (after_counted index q) t count 0 (q + 1) (line_numbers + a) k
 unfolding counted_at after_counted
-taking_starts index q lines a k t left small inside few is = record {
-  same = rw is;
-  near = omega arith;
-  few = omega arith;
-  ends = omega arith;
-  inside = inside;
-}
+taking_starts index q lines a k t count small inside few is =
+    let all : get_or index q 0 ≡ count - 0 = omega (arith, is) in
+    record {
+      same = ap (λ (l : ℕ). lines_taken lines (line_numbers + a) k (offsets_at index l (q + 1)) t) all;
+      near = omega arith;
+      few = omega arith;
+      ends = omega arith;
+      inside = inside;
+    }
 
-module _ (index : List ℕ) (lines : ℕ) (whole : List ℕ) (end : ℕ) (t : List ℕ) (left p i n : ℕ) (taking : Taking index lines whole end t left p i n) where
-  pub taking_next : 0 < left → (place : ℕ) → place ≡ offset_at index p → (u v : List ℕ) → u ≡ set t (lines + (n + 1)) place → v ≡ set u (lines + line_numbers + i) (n + 1)
-      → Taking index lines whole end v (left - 1) (p + 2) (n + 1) (n + 1)
+module _ (index : List ℕ) (lines : ℕ) (whole : List ℕ) (end : ℕ) (t : List ℕ) (count taken p i n : ℕ) (taking : Taking index lines whole end t count taken p i n) where
+  pub taking_next : taken < count → (place : ℕ) → place ≡ offset_at index p → (u v : List ℕ) → u ≡ set t (lines + (n + 1)) place → v ≡ set u (lines + line_numbers + i) (n + 1)
+      → Taking index lines whole end v count (taken + 1) (p + 2) (n + 1) (n + 1)
   unfolding lines_taken offsets_at
   taking_next more place at u v one two =
       let few = taking.few in
       let ends = taking.ends in
-      let less : left ≡ suc (left - 1) = omega arith in
+      let less : count - taken ≡ suc (count - (taken + 1)) = omega arith in
       record {
         same = taking.same ∙ ap (λ (l : ℕ). lines_taken lines i n (offsets_at index l p) t) less ∙ rw (two, one, at);
         near = omega arith;
@@ -60,14 +62,14 @@ module _ (index : List ℕ) (lines : ℕ) (whole : List ℕ) (end : ℕ) (t : Li
         inside = taking.inside;
       }
 
-  module _ (none : left ≤ 0) where
+  module _ (none : count ≤ taken) where
     pub taking_end : p ≡ end
     taking_end = let ends = taking.ends in omega arith
 
     pub taking_done : (v : List ℕ) → v ≡ set t (lines + line_numbers + i) 0 → v ≡ whole
     unfolding lines_taken offsets_at
     taking_done v is =
-        let zero : left ≡ 0 = omega arith in
+        let zero : count - taken ≡ 0 = omega arith in
         sym (taking.same ∙ ap (λ (l : ℕ). lines_taken lines i n (offsets_at index l p) t) zero ∙ sym is)
 
 -- THE ACTIONS: so many are left, from a up. Their parts of the index stand from q on, and their lines come behind so many effects and executability lines.

@@ -18,9 +18,8 @@ fn put_offset(room: &mut [u8], q: usize, p: usize)
     requires p_bound { p < 65536 }
     ensures { room.new ≡ sets room.old q (offsets (p ∷ [])) }
 {
-    let low = q + 1;
     room[q] = (p / 256) as u8;
-    room[low] = (p % 256) as u8;
+    room[q + 1] = (p % 256) as u8;
 }
 
 // The count of an action's lines and their offsets go to the room from place q on. It gives the place after them.
@@ -65,10 +64,8 @@ pub fn put_index(s: &[u8], t: &Notes, room: &mut [u8])
 {
     let actions = wide(s[1]);
     let mut q = 0;
-    let mut a = 0;
-    while a < actions {
+    for a in 0..actions {
         let middle = put_lines(t, notes::EFFECTS, a, room, q);
         q = put_lines(t, notes::EXECUTABILITY, a, room, middle);
-        a += 1;
     }
 }

@@ -18,8 +18,7 @@ fn offset_at(index: &[u8], p: usize) -> usize
     ensures value { result ≡ offset_at index.now p }
     ensures upper_bound { result < 65536 }
 {
-    let low = p + 1;
-    two(index[p], index[low])
+    two(index[p], index[p + 1])
 }
 
 // The offsets behind the count at q become the lines of action a, numbered from k + 1 on. It gives the place after them.
@@ -32,18 +31,17 @@ fn take_lines(index: &[u8], q: usize, t: &mut Notes, lines: usize, a: usize, k: 
     ensures value { result ≡ after_counted index.now q }
     ensures t_after { t.new ≡ lines_taken lines (line_numbers + a) k (counted_at index.now q) t.old }
 {
-    let mut left = wide(index[q]);
+    let count = wide(index[q]);
     let mut p = q + 1;
     let mut i = limits::LINE_NUMBERS + a;
     let mut n = k;
-    while 0 < left {
+    for _ in 0..count {
         let place = offset_at(index, p);
         p += 2;
         n += 1;
         put(t, lines + n, place);
         put(t, lines + limits::LINE_NUMBERS + i, n);
         i = n;
-        left -= 1;
     }
     put(t, lines + limits::LINE_NUMBERS + i, 0);
     p
@@ -59,14 +57,12 @@ pub fn take_index(s: &[u8], index: &[u8], t: &mut Notes)
     let mut q = 0;
     let mut effects = 0;
     let mut runs = 0;
-    let mut a = 0;
-    while a < actions {
-        let c = wide(index[q]);
+    for a in 0..actions {
+        let effect_count = wide(index[q]);
         let middle = take_lines(index, q, t, notes::EFFECTS, a, effects);
-        let d = wide(index[middle]);
+        let run_count = wide(index[middle]);
         q = take_lines(index, middle, t, notes::EXECUTABILITY, a, runs);
-        effects += c;
-        runs += d;
-        a += 1;
+        effects += effect_count;
+        runs += run_count;
     }
 }

@@ -2,19 +2,15 @@
 
 #![tactic(auto)]
 
-ghost use Rattle.programs.specs.Input.{Within};
+ghost use Rattle.std.specs.Io.{ReadsAtMost};
 
 use glintstring::judging::{
     Judged, judge, judge_by_cases, judge_guarded, judge_indexed, judge_values,
 };
 use parsing::limits;
-use programs::{
-    Asked, Input, REQUEST_ROOM, budget_asked, fail, open_index, option_asked, put, put_line,
-    put_number, put_state, put_values, read_all, stack_is_enough,
-};
+use programs::{Numbers, Program, Signs, Values, marks_left, open_index, read_all};
 use std::env::Env;
 use std::io;
-use std::io::{ErrorKind, Read, Write};
 use std::rt::Files;
 use verdicts::answers;
 
@@ -31,155 +27,115 @@ enum Call {
 // Room for an index, with a byte more: what stands behind that changes no answer.
 const INDEX_ROOM: usize = limits::INDEX + 1;
 
-// The line with the state that an answer has left.
-fn put_left(
-    rt: &impl Print,
-    call: Call,
-    state: &[u8; limits::FLUENTS],
-    fluents: u8,
-) -> io::Result<()> {
-    match call {
-        Call::Values => put_values(rt, state, fluents),
-        _ => put_state(rt, state, fluents),
+impl Call {
+    // Reads the index, which the script has open on another descriptor, where the call takes one. Every other call is given none.
+    fn read_index<R: Files>(self, rt: &R, buf: &mut [u8]) -> io::Result<usize>
+        ensures { ReadsAtMost result buf.new }
+    {
+        match self {
+            Call::Indexed => {
+                let mut file = open_index(rt)?;
+                read_all(&mut file, buf)
+            }
+            _ => Ok(0),
+        }
+    }
+
+    // What the call answers, and the line that its answer is about, which the values call has none of.
+    // Kept: each call is a function of its own, and two of the five take or give something else than the others. A trait would be five types with an
+    // implementation each, and one more type to choose among them, for the one place that makes a call.
+    fn answer(
+        self,
+        request: &[u8],
+        index: &[u8],
+        state: &mut [u8; limits::FLUENTS],
+        budget: u32,
+    ) -> Judged {
+        match self {
+            Call::Walk => judge(request, state, budget),
+            Call::Guarded => judge_guarded(request, state, budget),
+            Call::ByCases => judge_by_cases(request, state, budget),
+            Call::Indexed => judge_indexed(request, index, state, budget),
+            Call::Values => Judged {
+                answer: judge_values(request, state, budget),
+                line: 0,
+            },
+        }
+    }
+
+    // The line with the state that an answer has left.
+    fn put_left(self, rt: &impl Print, marks: &[u8]) -> io::Result<()> {
+        match self {
+            Call::Values => rt.println(Values(marks)),
+            _ => rt.println(Signs(marks)),
+        }
     }
 }
 
-// The answer, for 1, 2 and 43 the state, and where it is asked for the line. The first byte of a request that gets one of these is its fluent count. Without
-// enough stack there is none, which is said.
-fn answer_to<R: Print + Files, E: Write>(
-    rt: &R,
-    err: &mut E,
-    request: &[u8],
-    index: &[u8],
-    budget: u32,
+// The answer, for 1, 2 and 43 the state, and where it is asked for the line. Without the index that the call takes, or enough stack, there is no
+// answer, which is said. The index is read once the request is.
+fn answer_to<R: Print + Files>(
+    program: &Program<'_, R>,
     call: Call,
-    line: bool,
+    budget: u32,
+    line_asked: bool,
+    request: &[u8],
 ) -> io::Result<()> {
-    if !stack_is_enough(rt, err, b"judge", b"", request.len()) {
+    let rt = program.rt;
+    let mut bytes = [0u8; INDEX_ROOM];
+    let index = match call.read_index(rt, &mut bytes) {
+        Ok(n) => &bytes[..n],
+        Err(error) => {
+            program.fail("index", error);
+            return Ok(());
+        }
+    };
+    if !program.stack_is_enough(None, request.len()) {
         return Ok(());
     }
     let mut state = [0u8; limits::FLUENTS];
-    let judged = match call {
-        Call::Walk => judge(request, &mut state, budget),
-        Call::Guarded => judge_guarded(request, &mut state, budget),
-        Call::ByCases => judge_by_cases(request, &mut state, budget),
-        Call::Indexed => judge_indexed(request, index, &mut state, budget),
-        Call::Values => Judged {
-            answer: judge_values(request, &mut state, budget),
-            line: 0,
-        },
-    };
-    let answer = judged.answer;
-    put_line(
-        &mut io::writer(rt),
-        answer.number as u64,
-        answer.place as u64,
-        answer.count as u64,
-    )?;
-    if answer.number == answers::GOAL_MISSED
-        || answer.number == answers::NOT_EXECUTABLE
-        || answer.number == answers::GUARD_BROKEN
-    {
-        if request.len() == 0 {
-            return Err(io::Error::from(ErrorKind::InvalidData));
-        }
-        put_left(rt, call, &state, request[0])?;
+    let Judged { answer, line } = call.answer(request, index, &mut state, budget);
+    rt.println(Numbers(answer))?;
+    if let answers::GOAL_MISSED | answers::NOT_EXECUTABLE | answers::GUARD_BROKEN = answer.number {
+        call.put_left(rt, marks_left(request, &state)?)?;
     }
-    if line {
-        put_number(rt, judged.line as u64)?;
-        return put(rt, b"\n");
+    if line_asked {
+        rt.println(line)?;
     }
     Ok(())
 }
 
-// Reads the index, which the script has open on another descriptor.
-fn read_given<R: Files>(rt: &R, buf: &mut [u8]) -> Input
-    ensures { Within 0 result buf.new }
-{
-    match open_index(rt) {
-        Ok(mut file) => read_all(&mut file, buf),
-        Err(error) => Input::Unreadable(error),
-    }
-}
-
-// Reads the index where the call takes one. Every other call is given none.
-fn read_index<R: Files>(rt: &R, call: Call, buf: &mut [u8]) -> Input
-    ensures { Within 0 result buf.new }
-{
-    match call {
-        Call::Indexed => read_given(rt, buf),
-        _ => Input::Bytes(0),
-    }
-}
-
-// The index is read once the request is.
-fn judge_request<R: Print + Files, E: Write>(
-    rt: &R,
-    err: &mut E,
-    request: &[u8],
-    budget: u32,
-    call: Call,
-    line: bool,
-) {
-    let mut bytes = [0u8; INDEX_ROOM];
-    match read_index(rt, call, &mut bytes) {
-        Input::Bytes(n) => {
-            if let Err(error) = answer_to(rt, err, request, &bytes[..n], budget, call, line) {
-                fail(err, b"judge: standard output", error);
-            }
-        }
-        Input::Unreadable(error) => fail(err, b"judge: index", error),
-    }
-}
-
-fn judge_input<R: Print + io::Input + Files, E: Write>(
-    rt: &R,
-    err: &mut E,
-    budget: u32,
-    call: Call,
-    line: bool,
-) {
-    // One byte more than a request may have: a longer one is refused whatever it holds.
-    let mut bytes = [0u8; REQUEST_ROOM];
-    match read_all(&mut rt.reader(), &mut bytes) {
-        Input::Bytes(n) => judge_request(rt, err, &bytes[..n], budget, call, line),
-        Input::Unreadable(error) => fail(err, b"judge: standard input", error),
-    }
-}
-
 // The call that the argument so many from the end asks for.
-fn call_asked(rt: &impl Env, from_end: usize) -> Call {
-    if option_asked(rt, from_end, b"--guarded") {
-        return Call::Guarded;
+fn call_asked<R: Env>(program: &Program<'_, R>, from_end: usize) -> Call {
+    if program.option_asked(from_end, b"--guarded") {
+        Call::Guarded
+    } else if program.option_asked(from_end, b"--by-cases") {
+        Call::ByCases
+    } else if program.option_asked(from_end, b"--indexed") {
+        Call::Indexed
+    } else if program.option_asked(from_end, b"--values") {
+        Call::Values
+    } else {
+        Call::Walk
     }
-    if option_asked(rt, from_end, b"--by-cases") {
-        return Call::ByCases;
-    }
-    if option_asked(rt, from_end, b"--indexed") {
-        return Call::Indexed;
-    }
-    if option_asked(rt, from_end, b"--values") {
-        return Call::Values;
-    }
-    Call::Walk
 }
 
 // How many words there are beside a budget: the program's name, and the options.
-fn words_of(call: Call, line: bool) -> usize {
-    match call {
-        Call::Walk => if line { 2 } else { 1 },
-        _ => if line { 3 } else { 2 },
-    }
+fn words_of(call: Call, line_asked: bool) -> usize {
+    let options = match call {
+        Call::Walk => 0,
+        _ => 1,
+    };
+    1 + options + usize::from(line_asked)
 }
 
 fn main(rt: HostRuntime) {
-    let mut err = rt.stderr();
-    let line = option_asked(&rt, 1, b"--line");
-    let call = call_asked(&rt, if line { 2 } else { 1 });
-    match budget_asked(&rt, words_of(call, line)) {
-        Asked::Number(budget) => judge_input(&rt, &mut err, budget, call, line),
-        Asked::Nothing => {
-            let _ = err.write_all(b"judge: a budget is a decimal number up to 4294967295\n");
-        }
-    }
+    let program = Program::new(&rt, "judge");
+    let line_asked = program.option_asked(1, b"--line");
+    let call = call_asked(&program, if line_asked { 2 } else { 1 });
+    let Some(budget) = program.budget_asked(words_of(call, line_asked)) else {
+        program.say_budget();
+        return;
+    };
+    program.answer_input(|request| answer_to(&program, call, budget, line_asked, request));
 }

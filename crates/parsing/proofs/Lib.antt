@@ -1,4 +1,5 @@
 pub mod BitLaws
+pub mod RuleNumbers
 pub mod MaskLaws
 pub mod ByteLaws
 pub mod ListLaws

@@ -1,5 +1,5 @@
 -- Sets of values as numbers: what is in both, what satisfies a literal, and what a list leaves to each fluent. Assumes nothing.
-use Prim.Native.Nat.{ℕ, zero, suc, ◌+◌, ◌-◌, ◌/◌, ◌%◌, ◌^◌, ◌≤◌, ◌<◌, min}
+use Prim.Native.Nat.{ℕ, zero, suc, ◌+◌, ◌-◌, ◌/◌, ◌%◌, ◌^◌, ◌<◌, min}
 use native.Mathlib.Omega.{arith}
 use native.Mathlib.Nat.{zero-min}
 use native.Mathlib.Decide.{ℕ_discrete}
@@ -11,14 +11,15 @@ use lib.Seq.{get_or-set_same, get_or-set_other}
 use lib.Dec.{eqb}
 use lib.Bits.{bit_and, and_step}
 use borrow.Author.Tests.{eq-eqb, ne_eqb}
+use Rattle.std.specs.List.{list_any, range_with_len}
+use Rattle.std.specs.Prelude.{◌||◌}
 use Rattle.meaning.specs.Tests.{both, either, fails, pick, some_of, each_of}
-use Rattle.meaning.specs.Limits
 use Rattle.meaning.specs.Limits.{format}
 use Rattle.meaning.specs.Literals.{positive}
 use Rattle.meaning.specs.Values.{numbers, fits}
 use Rattle.meaning.specs.Reading.{literals_in}
-use Rattle.meaning.proofs.TestLaws.{by-test, clash, each_has, some_has, has_some}
-use Rattle.meaning.proofs.ValueLaws.{has_numbers, numbers_has}
+use Rattle.meaning.proofs.TestLaws.{by-test, each_has}
+use Rattle.meaning.proofs.ValueLaws.{has_numbers}
 use Rattle.parsing.specs.Bits.{bit_of}
 use Rattle.parsing.specs.Masks.{every_value, satisfying, some_left, narrowed, Allows}
 use Rattle.parsing.proofs.BitLaws.{bit_zero, bit_suc}
@@ -93,35 +94,19 @@ pub every_bit : (v : ℕ) → v < 16 → bit_of every_value v ≡ true
 every_bit v h = tried (bit_of 65535) v h all_bits
 
 -- WHAT IS LEFT of so many values, by a look at each.
-module _ (m values : ℕ) where
-  pub left_found : (v : ℕ) (b : Bool) → v < values → b ≡ bit_of m v → b ≡ true → true ≡ some_left m values
-  unfolding some_left
-  left_found v b h e is = sym (has_some (bit_of m) (numbers 0 values) v (has_numbers 0 values v (omega arith) (omega arith)) (sym e ∙ is))
+any_some : (test : ℕ → Bool) (xs : List ℕ) → list_any test xs ≡ some_of test xs
+unfolding some_of either
+any_some test [] = refl
+any_some test (x ∷ xs) = elim (test x) as (λ b. (b || list_any test xs) ≡ either b (some_of test xs)) [ true ↦ refl | false ↦ any_some test xs ]
 
--- None below v is left.
-pub record NoneBelow (m v : ℕ) : Type 0 where
-  pub each : (u : ℕ) → u < v → bit_of m u ≡ false
+numbers_range : (first many : ℕ) → range_with_len first many ≡ numbers first many
+unfolding numbers
+numbers_range first zero = refl
+numbers_range first (suc many) = ap (λ (xs : List ℕ). first ∷ xs) (numbers_range (first + 1) many)
 
-pub none_yet : (m : ℕ) → NoneBelow m 0
-none_yet m = record { each = λ u h. absurd (omega arith) }
-
-pub none_more : (m v : ℕ) (b : Bool) → NoneBelow m v → b ≡ bit_of m v → b ≡ false → NoneBelow m (v + 1)
-none_more m v b so e is =
-    record {
-      each = λ u h. elim (ℕ_discrete u v) [
-        | yes same ↦ ap (bit_of m) same ∙ sym e ∙ is
-        | no other ↦ so.each u (omega arith)
-      ];
-    }
-
-pub none_left : (m values v : ℕ) → NoneBelow m v → values ≤ v → false ≡ some_left m values
+pub left_any : (m values : ℕ) → list_any (bit_of m) (range_with_len 0 values) ≡ some_left m values
 unfolding some_left
-none_left m values v so h =
-    by-test (some_of (bit_of m) (numbers 0 values))
-    (λ e. let t = some_has (bit_of m) (numbers 0 values) e in
-    let near = numbers_has 0 values t.0 t.1 in
-    clash t.2 (so.each t.0 (omega arith)))
-    (λ e. sym e)
+left_any m values = any_some (bit_of m) (range_with_len 0 values) ∙ ap (some_of (bit_of m)) (numbers_range 0 values)
 
 both_swapped : (a b : Bool) → both a b ≡ both b a
 unfolding both

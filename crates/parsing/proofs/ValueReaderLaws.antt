@@ -5,33 +5,32 @@ use native.Mathlib.Nat.{one-mul}
 use native.Mathlib.Numerals.{sub-one}
 use mir.Syntax.{w8, w64}
 use mir.Val.{Fits}
-use mathlib.Core.Path.{◌≡◌, refl, sym, ◌∙◌, ap, subst}
+use mathlib.Core.Path.{◌≡◌, sym, ◌∙◌, ap, subst}
 use mathlib.Core.Bool.{Bool, true, false}
-use mathlib.Core.List.{List, [], ◌∷◌}
-use lib.ListN.{length, get_or, set, replicate, get_or-eq_default}
+use mathlib.Core.List.{List, ◌∷◌}
+use lib.ListN.{length, get_or, set, get_or-eq_default}
 use lib.Dec.{ltb}
 use lib.Bits.{bit_and}
 use lib.Pow.{shl_exact}
 use borrow.Author.Tests.{lt-ltb, le-ltb, eq-eqb, ne_eqb}
+use Rattle.std.specs.Prelude.{Ok, Err}
 use Rattle.meaning.specs.Tests.{pick, Has}
-use Rattle.meaning.specs.Limits
 use Rattle.meaning.specs.Limits.{format}
 use Rattle.meaning.specs.Literals.{positive}
-use Rattle.meaning.specs.Values.{values_of, numbers, fits}
-use Rattle.meaning.specs.Reading.{Got, got, fault, next, count_at, below_at, values_in, value_at, leaves_one, floor_after, value_entry_at, value_entries_at, value_list_at, set_value_at, value_counts_at}
+use Rattle.meaning.specs.Values.{values_of, numbers}
+use Rattle.meaning.specs.Reading.{Got, got, fault, next, count_at, below_at, values_in, value_at, leaves_one, floor_after, value_entry_at, set_value_at, value_counts_at}
 use Rattle.meaning.proofs.TestLaws.{pick_true, pick_false, same_test, some_has, has_some}
 use Rattle.meaning.proofs.ValueLaws.{numbers_has}
 use Rattle.meaning.proofs.SettledLaws.{next_got, got_same}
 use Rattle.meaning.proofs.RangeLaws.{below_bound}
-use Rattle.parsing.specs.declared.bytes.Read.{Read}
-use Rattle.parsing.specs.declared.bytes.Read.TheVariants.{Value, Fault}
-use Rattle.parsing.specs.declared.lists.Passed.{Passed}
-use Rattle.parsing.specs.declared.lists.Passed.TheVariants.{To, Fault as Stop}
-use Rattle.parsing.specs.Read.{number_read, passed}
-use Rattle.parsing.specs.Masks.{every_value, satisfying, some_left, narrowed, Allows, FewValues}
-use Rattle.parsing.proofs.ByteLaws.{read_value, read_fault}
-use Rattle.parsing.proofs.ListLaws.{passed_same}
-use Rattle.parsing.proofs.MaskLaws.{allows_all, allows_narrowed}
+use Rattle.parsing.specs.declared.faults.Fault.{Fault}
+use Rattle.parsing.specs.declared.faults.Refusal.TheVariants.{NotAbove, ComplementBeside, SaysIsNot}
+use Rattle.parsing.specs.Entries.{EntryRead}
+use Rattle.parsing.specs.Read.{Numbered, numbered, passed, stopped}
+use Rattle.parsing.specs.Masks.{satisfying, some_left, narrowed, Allows, FewValues}
+use Rattle.parsing.proofs.ByteLaws.{failing, read_value, stops}
+use Rattle.parsing.proofs.ListLaws.{passed_same, whole_stops, entry_refused, entry_taken}
+use Rattle.parsing.proofs.MaskLaws.{allows_narrowed}
 
 -- HOW MANY VALUES a fluent has.
 module _ (s : List ℕ) (f : ℕ) where
@@ -58,27 +57,26 @@ pub byte_small : (s : List ℕ) (i v : ℕ) → v ≡ get_or s i 0 → ((j : ℕ
 byte_small s i v e bytes = subst (λ (x : ℕ). x < 256) (sym e) (bytes i).fits
 
 -- A LITERAL, byte by byte.
-module _ (n : ℕ) (s : List ℕ) (p : ℕ) (fluent : Read) (read : fluent ≡ number_read (below_at n s p)) where
-  pub value_fluent_fault : (k q : ℕ) → fluent ≡ Fault k q → Fault k q ≡ number_read (value_at n s p)
-  unfolding value_at next number_read
-  value_fluent_fault k q is = rw (read_fault (below_at n s p) fluent k q read is)
+module _ (n : ℕ) (s : List ℕ) (p : ℕ) where
+  pub value_fluent_fault : {j e : ℕ} → fault j e ≡ below_at n s p → fault j e ≡ value_at n s p
+  unfolding value_at
+  value_fluent_fault e = stops (below_at n s p) _ e
 
-  module _ (f q : ℕ) (is : fluent ≡ Value f q) where
+  module _ (f q : ℕ) (read : got f q ≡ below_at n s p) where
     pub value_fluent_near : n ≤ format.fluents → f < format.fluents
-    value_fluent_near h = let low = below_bound n s p f q (read_value (below_at n s p) fluent f q read is) in omega arith
+    value_fluent_near h = let low = below_bound n s p f q (read_value (below_at n s p) read) in omega arith
 
-    module _ (values bound : ℕ) (so : values ≡ values_in s f) (second : Read) (read-too : second ≡ number_read (below_at (2 * values) s q)) where
-      second_is : second ≡ number_read (below_at (2 * values_in s f) s q)
-      second_is = read-too ∙ ap (λ (v : ℕ). number_read (below_at (2 * v) s q)) so
+    module _ (values : ℕ) (so : values ≡ values_in s f) where
+      pub value_second_fault : {j e : ℕ} → fault j e ≡ below_at (2 * values) s q → fault j e ≡ value_at n s p
+      unfolding value_at next
+      value_second_fault e =
+          rw (read_value (below_at n s p) read) (stops (below_at (2 * values_in s f) s q) _ (e ∙ ap (λ (v : ℕ). below_at (2 * v) s q) so))
 
-      pub value_second_fault : (k e : ℕ) → second ≡ Fault k e → Fault k e ≡ number_read (value_at n s p)
-      unfolding value_at next number_read
-      value_second_fault k e is-too = rw (read_value (below_at n s p) fluent f q read is, read_fault (below_at (2 * values_in s f) s q) second k e second_is is-too)
-
-      module _ (b e : ℕ) (is-too : second ≡ Value b e) where
-        pub value_whole : Value (f * 256 + b) e ≡ number_read (value_at n s p)
-        unfolding value_at next number_read
-        value_whole = rw (read_value (below_at n s p) fluent f q read is, read_value (below_at (2 * values_in s f) s q) second b e second_is is-too)
+      module _ (b e : ℕ) (read-too : got b e ≡ below_at (2 * values) s q) where
+        pub value_whole : got (f * 256 + b) e ≡ value_at n s p
+        unfolding value_at next
+        value_whole =
+            rw (read_value (below_at n s p) read, read_value (below_at (2 * values_in s f) s q) (read-too ∙ ap (λ (v : ℕ). below_at (2 * v) s q) so))
 
         pub value_high_fits : n ≤ format.fluents → Fits w64 (f * 256)
         value_high_fits h = let near = value_fluent_near h in record { fits = omega arith }
@@ -86,7 +84,7 @@ module _ (n : ℕ) (s : List ℕ) (p : ℕ) (fluent : Read) (read : fluent ≡ n
         pub value_fits : n ≤ format.fluents → values < 256 → Fits w64 (f * 256 + b)
         value_fits h low =
             let near = value_fluent_near h in
-            let small = below_bound (2 * values) s q b e (read_value (below_at (2 * values) s q) second b e read-too is-too) in
+            let small = below_bound (2 * values) s q b e (read_value (below_at (2 * values) s q) read-too) in
             record { fits = omega arith }
 
 -- WHAT SATISFIES IT.
@@ -102,43 +100,46 @@ unfolding satisfying positive
 satisfies_is_not l bit h e odd = ap (λ (x : ℕ). 65535 - x) (e ∙ shifted l h) ∙ sym (pick_false _ _ _ (ne_eqb (l % 2) 0 odd))
 
 -- AN EFFECT'S LITERAL.
-module _ (n : ℕ) (s : List ℕ) (p : ℕ) (number : Read) (read : number ≡ number_read (value_at n s p)) where
-  pub set_fault : (k q : ℕ) → number ≡ Fault k q → Fault k q ≡ number_read (set_value_at n s p)
-  unfolding set_value_at next number_read
-  set_fault k q is = rw (read_fault (value_at n s p) number k q read is)
+module _ (n : ℕ) (s : List ℕ) (p : ℕ) where
+  pub set_fault : {j e : ℕ} → fault j e ≡ value_at n s p → fault j e ≡ set_value_at n s p
+  unfolding set_value_at
+  set_fault e = stops (value_at n s p) _ e
 
-  module _ (x q : ℕ) (is : number ≡ Value x q) where
+  module _ (x q : ℕ) (read : got x q ≡ value_at n s p) where
     set_rest : set_value_at n s p ≡ pick (positive x) (λ _. got x q) (λ _. fault 46 p)
     unfolding set_value_at next
-    set_rest = rw (read_value (value_at n s p) number x q read is)
+    set_rest = rw (read_value (value_at n s p) read)
 
-    pub set_is : x % 2 ≡ 0 → Value x q ≡ number_read (set_value_at n s p)
-    unfolding number_read positive
-    set_is even = sym (ap number_read (set_rest ∙ pick_true _ _ _ (eq-eqb (x % 2) 0 even)))
+    pub set_is : x % 2 ≡ 0 → got x q ≡ set_value_at n s p
+    unfolding positive
+    set_is even = sym (set_rest ∙ pick_true _ _ _ (eq-eqb (x % 2) 0 even))
 
-    pub set_is_not : (x % 2 ≡ 0 → ⊥) → Fault 46 p ≡ number_read (set_value_at n s p)
-    unfolding number_read positive
-    set_is_not odd = sym (ap number_read (set_rest ∙ pick_false _ _ _ (ne_eqb (x % 2) 0 odd)))
+    pub set_is_not : (f : Fault) → (x % 2 ≡ 0 → ⊥) → f ≡ record { refusal = SaysIsNot; place = p } → numbered (Err f) ≡ set_value_at n s p
+    unfolding positive
+    set_is_not f odd e = ap failing e ∙ sym (set_rest ∙ pick_false _ _ _ (ne_eqb (x % 2) 0 odd))
 
 -- THE NUMBERS OF VALUES.
-module _ (s : List ℕ) (p : ℕ) (whole : Passed) where
-  pub counts_done : (left : ℕ) → whole ≡ passed (value_counts_at left s p) → left ≤ 0 → To p ≡ whole
+module _ (s : List ℕ) (p : ℕ) (whole : Got (Unit {0})) where
+  pub counts_done : (left : ℕ) → whole ≡ passed (value_counts_at left s p) → left ≡ 0 → got tt p ≡ whole
   unfolding value_counts_at passed
   counts_done zero w h = sym w
   counts_done (suc left) w h = absurd (omega arith)
 
-  pub counts_fault : (left j q : ℕ) (number : Read) → whole ≡ passed (value_counts_at left s p) → 0 < left
-      → number ≡ number_read (count_at 2 16 s p) → number ≡ Fault j q → Stop j q ≡ whole
-  unfolding value_counts_at passed next
-  counts_fault zero j q number w h read is = absurd (omega arith)
-  counts_fault (suc left) j q number w h read is = rw (w, read_fault (count_at 2 16 s p) number j q read is)
+  pub counts_fault : (count i : ℕ) {j e : ℕ} → whole ≡ passed (value_counts_at (count - i) s p) → i < count → fault j e ≡ count_at 2 16 s p → fault j e ≡ whole
+  unfolding value_counts_at
+  counts_fault count i w h e = at_left (count - i) (omega arith) w e
+    where
+      at_left : (left : ℕ) → 0 < left → whole ≡ passed (value_counts_at left s p) → {j e : ℕ} → fault j e ≡ count_at 2 16 s p → fault j e ≡ whole
+      at_left zero h w e = absurd (omega arith)
+      at_left (suc left) h w e = whole_stops (count_at 2 16 s p) _ e ∙ sym w
 
-  pub counts_next : (left x q : ℕ) (number : Read) → whole ≡ passed (value_counts_at left s p) → 0 < left
-      → number ≡ number_read (count_at 2 16 s p) → number ≡ Value x q → whole ≡ passed (value_counts_at (left - 1) s q)
+  pub counts_next : (count i x q : ℕ) → whole ≡ passed (value_counts_at (count - i) s p) → i < count → got x q ≡ count_at 2 16 s p → whole ≡ passed (value_counts_at (count - (i + 1)) s q)
   unfolding value_counts_at next
-  counts_next zero x q number w h read is = absurd (omega arith)
-  counts_next (suc left) x q number w h read is =
-      w ∙ rw (read_value (count_at 2 16 s p) number x q read is, sub-one) (passed_same (value_counts_at left s q) (λ xs. x ∷ xs))
+  counts_next count i x q w h read = at_left (count - i) (omega arith) w ∙ ap (λ (left : ℕ). passed (value_counts_at left s q)) (omega arith)
+    where
+      at_left : (left : ℕ) → 0 < left → whole ≡ passed (value_counts_at left s p) → whole ≡ passed (value_counts_at (left - 1) s q)
+      at_left zero h w = absurd (omega arith)
+      at_left (suc left) h w = w ∙ rw (read_value (count_at 2 16 s p) read, sub-one) (passed_same (value_counts_at left s q) (λ xs. x ∷ xs))
 
 -- NARROWING.
 pub narrow_is : (sets : List ℕ) (l left : ℕ) → left ≡ satisfying l → set sets (l / 256) (bit_and (get_or sets (l / 256) 0) left) ≡ narrowed l sets
@@ -161,18 +162,15 @@ in_range n s p x q h few e =
     let is : w.0 * 256 + v.0 ≡ x = got_same v.3 in
     record { near = omega arith; second = omega arith }
 
-module _ (n : ℕ) (s : List ℕ) (p x q : ℕ) (number : Read) (h : n ≤ format.fluents) (few : FewValues s) (read : number ≡ number_read (value_at n s p)) (is : number ≡ Value x q) where
+module _ (n : ℕ) (s : List ℕ) (p x q : ℕ) (h : n ≤ format.fluents) (few : FewValues s) (read : got x q ≡ value_at n s p) where
   pub value_near : x < 32768
-  value_near = (in_range n s p x q h few (read_value (value_at n s p) number x q read is)).near
+  value_near = (in_range n s p x q h few (read_value (value_at n s p) read)).near
 
   pub value_second : x % 256 < 32
-  value_second = (in_range n s p x q h few (read_value (value_at n s p) number x q read is)).second
+  value_second = (in_range n s p x q h few (read_value (value_at n s p) read)).second
 
   pub value_fluent : x / 256 < format.fluents
-  value_fluent = let r = in_range n s p x q h few (read_value (value_at n s p) number x q read is) in let low = r.near in omega arith
-
-  pub value_floor_fits : Fits w64 (x + 1)
-  value_floor_fits = let r = in_range n s p x q h few (read_value (value_at n s p) number x q read is) in let low = r.near in record { fits = omega arith }
+  value_fluent = let r = in_range n s p x q h few (read_value (value_at n s p) read) in let low = r.near in omega arith
 
 pub few_enough : (s : List ℕ) (f values : ℕ) → FewValues s → values ≡ values_in s f → values ≤ 16
 few_enough s f values few e = subst (λ (v : ℕ). v ≤ 16) (sym e) (few.each f)
@@ -190,79 +188,41 @@ left_is s before sets x so few near =
     low : (v : ℕ) → Has (numbers 0 (values_in s (x / 256))) v → v < 16
     low v there = let below = numbers_has 0 (values_in s (x / 256)) v there in let most = few.each (x / 256) in omega arith
 
--- THE LOOP over the entries: what the whole gives is what is left of it, after the entries so far.
-pub record EntriesAhead (n : ℕ) (s : List ℕ) (whole : Passed) (left p floor : ℕ) (allowed : List ℕ) : Type 0 where
-  pub before : List ℕ
-  pub is : whole ≡ passed (value_entries_at n s left p before)
-  pub above : floor ≡ floor_after before
-  pub allows : Allows s before allowed
+-- AN ENTRY, after those before it, which leave the sets that are kept.
+module _ (n : ℕ) (s : List ℕ) (p floor : ℕ) (allowed sets : List ℕ) where
+  abbrev Reads : Numbered → Type 0
+  Reads = EntryRead (value_entry_at n s p) (λ before. Allows s before allowed) (λ before. Allows s before sets) floor
 
-pub entries_first : (n : ℕ) (s : List ℕ) (count start : ℕ) → EntriesAhead n s (passed (value_entries_at n s count start [])) count start 0 (replicate format.fluents every_value)
-unfolding floor_after
-entries_first n s count start = record { before = []; is = refl; above = refl; allows = allows_all s }
+  pub value_entry_fault : (why : Fault) → stopped why ≡ value_at n s p → Reads (Err why)
+  unfolding value_entry_at
+  value_entry_fault why e = entry_refused _ _ _ _ why (λ before o a. stops (value_at n s p) _ e)
 
-pub entries_over : (n : ℕ) (s : List ℕ) (whole : Passed) (left p floor : ℕ) (allowed : List ℕ) → EntriesAhead n s whole left p floor allowed → left ≤ 0 → To p ≡ whole
-unfolding value_entries_at passed
-entries_over n s whole zero p floor allowed a h = sym a.is
-entries_over n s whole (suc left) p floor allowed a h = absurd (omega arith)
-
-module _ (n : ℕ) (s : List ℕ) (whole : Passed) (p floor : ℕ) (allowed : List ℕ) (number : Read) (read : number ≡ number_read (value_at n s p)) where
-  pub entries_stop : (left k q : ℕ) → EntriesAhead n s whole left p floor allowed → 0 < left → number ≡ Fault k q → Stop k q ≡ whole
-  unfolding value_entries_at value_entry_at next passed
-  entries_stop zero k q a h f = absurd (omega arith)
-  entries_stop (suc left) k q a h f = rw (a.is, read_fault (value_at n s p) number k q read f)
-
-  module _ (x q : ℕ) (is : number ≡ Value x q) where
+  module _ (x q : ℕ) (read : got x q ≡ value_at n s p) where
     entry_rest : (before : List ℕ) → value_entry_at n s p before ≡ pick (ltb x (floor_after before)) (λ _. fault 14 p) (λ _. pick (leaves_one s x (x ∷ before)) (λ _. got x q) (λ _. fault 15 p))
     unfolding value_entry_at next
-    entry_rest before = rw (read_value (value_at n s p) number x q read is)
+    entry_rest before = rw (read_value (value_at n s p) read)
 
-    pub entries_low : (left : ℕ) → EntriesAhead n s whole left p floor allowed → 0 < left → x < floor → Stop 14 p ≡ whole
-    unfolding value_entries_at next passed
-    entries_low zero a h low = absurd (omega arith)
-    entries_low (suc left) a h low =
-        sym (a.is ∙ ap (λ (g : Got ℕ). passed (next g λ y r. next (value_entries_at n s left r (y ∷ a.before)) λ ys e. got (y ∷ ys) e))
-        (entry_rest a.before ∙ pick_true _ _ _ (lt-ltb x _ (subst (λ (m : ℕ). x < m) a.above low))))
+    pub value_entry_low : (f : Fault) → x < floor → f ≡ record { refusal = NotAbove; place = p } → Reads (Err f)
+    value_entry_low f low e = entry_refused _ _ _ _ f (λ before o a. ap failing e ∙ sym (entry_rest before ∙ pick_true _ _ _ (lt-ltb x _ (subst (λ (m : ℕ). x < m) a low))))
 
-    module _ (h : n ≤ format.fluents) (few : FewValues s) (sets : List ℕ) (new : sets ≡ narrowed x allowed) (values : ℕ) (so : values ≡ values_in s (x / 256))
+    module _ (h : n ≤ format.fluents) (few : FewValues s) (new : sets ≡ narrowed x allowed) (values : ℕ) (so : values ≡ values_in s (x / 256))
         (some : Bool) (told : some ≡ some_left (get_or sets (x / 256) 0) values) (high : floor ≤ x) where
       now_allows : (before : List ℕ) → Allows s before allowed → Allows s (x ∷ before) sets
       now_allows before a =
-          let r = in_range n s p x q h few (read_value (value_at n s p) number x q read is) in
+          let r = in_range n s p x q h few (read_value (value_at n s p) read) in
           subst (Allows s (x ∷ before)) (sym new) (allows_narrowed s before allowed x a r.near r.second)
 
       left_now : (before : List ℕ) → Allows s before allowed → some ≡ leaves_one s x (x ∷ before)
       left_now before a =
           told ∙ ap (some_left (get_or sets (x / 256) 0)) so
-          ∙ left_is s before sets x (now_allows before a) few (value_fluent n s p x q number h few read is)
+          ∙ left_is s before sets x (now_allows before a) few (value_fluent n s p x q h few read)
 
-      pub entries_none : (left : ℕ) → EntriesAhead n s whole left p floor allowed → 0 < left → some ≡ false → Stop 15 p ≡ whole
-      unfolding value_entries_at next passed
-      entries_none zero a pos none = absurd (omega arith)
-      entries_none (suc left) a pos none =
-          sym (a.is ∙ ap (λ (g : Got ℕ). passed (next g λ y r. next (value_entries_at n s left r (y ∷ a.before)) λ ys e. got (y ∷ ys) e))
-          (entry_rest a.before ∙ pick_false _ _ _ (le-ltb x _ (subst (λ (m : ℕ). m ≤ x) a.above high))
-          ∙ pick_false _ _ _ (sym (left_now a.before a.allows) ∙ none)))
+      left_rest : (before : List ℕ) → floor ≡ floor_after before → value_entry_at n s p before ≡ pick (leaves_one s x (x ∷ before)) (λ _. got x q) (λ _. fault 15 p)
+      left_rest before a = entry_rest before ∙ pick_false _ _ _ (le-ltb x _ (subst (λ (m : ℕ). m ≤ x) a high))
 
-      pub entries_onward : (left : ℕ) → EntriesAhead n s whole left p floor allowed → 0 < left → some ≡ true → EntriesAhead n s whole (left - 1) q (x + 1) sets
-      unfolding value_entries_at next floor_after
-      entries_onward zero a pos yet = absurd (omega arith)
-      entries_onward (suc left) a pos yet =
-          record {
-            before = x ∷ a.before;
-            is = a.is ∙ ap (λ (g : Got ℕ). passed (next g λ y r. next (value_entries_at n s left r (y ∷ a.before)) λ ys e. got (y ∷ ys) e))
-                (entry_rest a.before ∙ pick_false _ _ _ (le-ltb x _ (subst (λ (m : ℕ). m ≤ x) a.above high)) ∙ pick_true _ _ _ (sym (left_now a.before a.allows) ∙ yet))
-                ∙ passed_same (value_entries_at n s left q (x ∷ a.before)) (λ ys. x ∷ ys) ∙ ap (λ (k : ℕ). passed (value_entries_at n s k q (x ∷ a.before))) {x = left} {y = suc left - 1} (omega arith);
-            above = refl;
-            allows = now_allows a.before a.allows;
-          }
+      pub value_entry_none : (f : Fault) → some ≡ false → f ≡ record { refusal = ComplementBeside; place = p } → Reads (Err f)
+      value_entry_none f none e = entry_refused _ _ _ _ f (λ before o a. ap failing e ∙ sym (left_rest before a ∙ pick_false _ _ _ (sym (left_now before o) ∙ none)))
 
--- LISTS.
-module _ (n most : ℕ) (s : List ℕ) (p : ℕ) (count : Read) (read : count ≡ number_read (count_at 0 most s p)) where
-  pub value_list_fault : (j q : ℕ) → count ≡ Fault j q → Stop j q ≡ passed (value_list_at n most s p)
-  unfolding value_list_at next passed
-  value_list_fault j q e = rw (read_fault (count_at 0 most s p) count j q read e)
-
-  pub value_list_entries : (c q : ℕ) (r : Passed) → count ≡ Value c q → r ≡ passed (value_entries_at n s c q []) → r ≡ passed (value_list_at n most s p)
-  unfolding value_list_at next
-  value_list_entries c q r e f = rw (read_value (count_at 0 most s p) count c q read e) f
+      pub value_entry_good : some ≡ true → Reads (Ok (x, q))
+      value_entry_good yet =
+          entry_taken _ _ _ _ x q (λ before o a. sym (left_rest before a ∙ pick_true _ _ _ (sym (left_now before o) ∙ yet))) now_allows (value_near n s p x q h few read)

@@ -1,6 +1,8 @@
 -- Sets of values, each a number with a bit for every value that is in it: those that satisfy a literal, and those that a list leaves to each fluent.
 use Rattle.std.specs.Prelude.{ℕ, ◌-◌, ◌/◌, ◌%◌, ◌^◌, ◌≤◌, ◌<◌, ◌≡◌, Bool, List, length, get_or, set}
 use Rattle.std.specs.Int.Bits.{bit_and}
+use Rattle.std.specs.Coded.{le_prop}
+use mathlib.Core.Path.{ap, fun_ext}
 use Rattle.meaning.specs.Tests.{pick, some_of}
 use Rattle.meaning.specs.Limits
 use Rattle.meaning.specs.Limits.{format}
@@ -39,3 +41,8 @@ pub record FewValues (s : List ℕ) : Type 0 where
 -- Of flags nothing is asked.
 unfoldable pub Counted : Form → List ℕ → Type 0
 Counted form s = form ≡ Valued → FewValues s
+
+-- That a request is so counted is so in one way.
+pub Counted_prop : (form : Form) (s : List ℕ) → IsProp (Counted form s)
+unfolding Counted
+Counted_prop form s a b = fun_ext (λ e. ap (λ (h : (f : ℕ) → values_in s f ≤ Limits.most_values). record { each = h }) (fun_ext (λ f. le_prop ((a e).each f) ((b e).each f))))

@@ -6,7 +6,7 @@ pub fn has_bit(w: u16, i: usize) -> bool
     requires { i < 16 }
     ensures { result ≡ bit_of w i }
 {
-    let above = w as usize >> i;
+    let above = usize::from(w) >> i;
     above % 2 == 1
 }
 

@@ -1,82 +1,58 @@
 ghost use Rattle.std.specs.Prelude.{◌≡◌, ◌+◌, ◌*◌};
 ghost use Rattle.meaning.specs.Reading.{byte_at, two_bytes_at, count_at, below_at};
-ghost use Rattle.parsing.specs.Read.{number_read};
+ghost use Rattle.parsing.specs.Read.{numbered};
 
-use super::limits;
-
-// A number and the place after what was read; or the fault met, its number and its place.
-#[derive(Clone, Copy)]
-pub enum Read {
-    Value(usize, usize),
-    Fault(u8, usize),
-}
+use super::faults::{Fault, Refusal};
 
 pub fn wide(x: u8) -> usize
     ensures { result ≡ x }
 {
-    x as usize
+    usize::from(x)
 }
 
-pub fn byte_at(s: &[u8], p: usize) -> Read
-    ensures { result ≡ number_read (byte_at s.now p) }
+// A byte, and the place after it; or the fault met. Whatever reads a number answers so.
+pub fn byte_at(s: &[u8], p: usize) -> Result<(usize, usize), Fault>
+    ensures { numbered result ≡ byte_at s.now p }
 {
     if s.len() <= p {
-        return Read::Fault(limits::ENDS_TOO_SOON, s.len());
+        return Err(Refusal::EndsTooSoon.at(s.len()));
     }
-    let after = p + 1;
-    Read::Value(wide(s[p]), after)
+    Ok((usize::from(s[p]), p + 1))
 }
 
 pub fn two(high: u8, low: u8) -> usize
     ensures { result ≡ high * 256 + low }
 {
-    (high as usize) * 256 + (low as usize)
+    usize::from(u16::from_be_bytes([high, low]))
 }
 
 // A two-byte number, high byte first.
-pub fn two_bytes_at(s: &[u8], p: usize) -> Read
-    ensures { result ≡ number_read (two_bytes_at s.now p) }
+pub fn two_bytes_at(s: &[u8], p: usize) -> Result<(usize, usize), Fault>
+    ensures { numbered result ≡ two_bytes_at s.now p }
 {
-    if s.len() <= p {
-        return Read::Fault(limits::ENDS_TOO_SOON, s.len());
-    }
-    let q = p + 1;
-    if s.len() <= q {
-        return Read::Fault(limits::ENDS_TOO_SOON, q);
-    }
-    let after = q + 1;
-    Read::Value(two(s[p], s[q]), after)
+    let (high, second) = byte_at(s, p)?;
+    let (low, after) = byte_at(s, second)?;
+    Ok((high * 256 + low, after))
 }
 
 // A count from `least` to `most`.
-pub fn count_at(least: usize, most: usize, s: &[u8], p: usize) -> Read
-    ensures { result ≡ number_read (count_at least most s.now p) }
+pub fn count_at(least: usize, most: usize, s: &[u8], p: usize) -> Result<(usize, usize), Fault>
+    ensures { numbered result ≡ count_at least most s.now p }
 {
-    match byte_at(s, p) {
-        Read::Value(c, q) => {
-            if c < least {
-                return Read::Fault(limits::COUNT_OUTSIDE, p);
-            }
-            if most < c {
-                return Read::Fault(limits::COUNT_OUTSIDE, p);
-            }
-            Read::Value(c, q)
-        }
-        Read::Fault(k, q) => Read::Fault(k, q),
+    let (count, after) = byte_at(s, p)?;
+    if count < least || most < count {
+        return Err(Refusal::CountOutside.at(p));
     }
+    Ok((count, after))
 }
 
 // A fluent, literal or action: a byte below `bound`.
-pub fn below_at(bound: usize, s: &[u8], p: usize) -> Read
-    ensures { result ≡ number_read (below_at bound s.now p) }
+pub fn below_at(bound: usize, s: &[u8], p: usize) -> Result<(usize, usize), Fault>
+    ensures { numbered result ≡ below_at bound s.now p }
 {
-    match byte_at(s, p) {
-        Read::Value(x, q) => {
-            if bound <= x {
-                return Read::Fault(limits::TOO_LARGE, p);
-            }
-            Read::Value(x, q)
-        }
-        Read::Fault(k, q) => Read::Fault(k, q),
+    let (x, after) = byte_at(s, p)?;
+    if bound <= x {
+        return Err(Refusal::TooLarge.at(p));
     }
+    Ok((x, after))
 }

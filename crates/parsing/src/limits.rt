@@ -1,4 +1,4 @@
-// Every limit, refusal and mark, named once as in the definitions' Limits (FORMAT 3.2 to 3.15).
+// Every limit and mark, named once as in the definitions' Limits (FORMAT 3.2 to 3.15).
 pub const FLUENTS: usize = 128;
 
 pub const ACTIONS: usize = 128;
@@ -44,34 +44,8 @@ pub const LINE_NUMBERS: usize = 256;
 // The byte that opens a branching (FORMAT 2.24).
 pub const BRANCHING_BYTE: u8 = 255;
 
-// Refusals (FORMAT 4.8 to 4.19).
-pub const TOO_LONG: u8 = 10;
-
-pub const ENDS_TOO_SOON: u8 = 11;
-
-pub const COUNT_OUTSIDE: u8 = 12;
-
-pub const TOO_LARGE: u8 = 13;
-
-pub const NOT_ABOVE: u8 = 14;
-
-pub const COMPLEMENT_BESIDE: u8 = 15;
-
-pub const CONTRADICTORY_EFFECTS: u8 = 16;
-
-pub const EFFECT_AND_KNOWLEDGE: u8 = 17;
-
-pub const NOT_EXCLUSIVE: u8 = 18;
-
-pub const NESTED_TOO_DEEP: u8 = 19;
-
-pub const BYTES_AFTER: u8 = 20;
-
-pub const TOO_MANY_ITEMS: u8 = 21;
-
-pub const SAYS_IS_NOT: u8 = 46;
-
 // Marks of a partial state (FORMAT 4.47, 7.1).
+// Kept: a mark is a byte of the state that the C interface lends and hands out, and `3 - mark` is the other mark of a fluent; an enum would be turned into that byte, and back, at each of these places.
 pub const UNKNOWN_MARK: u8 = 0;
 
 pub const TRUE_MARK: u8 = 1;

@@ -1,14 +1,16 @@
-ghost use Rattle.std.specs.Prelude.{◌≡◌, [], ◌%◌, ◌≤◌, ◌<◌};
+ghost use Rattle.std.specs.Prelude.{◌≡◌, ◌%◌, ◌≤◌, ◌<◌};
 ghost use Rattle.meaning.specs.Limits;
 ghost use Rattle.meaning.specs.Limits.{format};
-ghost use Rattle.meaning.specs.Reading.{values_in, value_at, value_entries_at, value_list_at, set_value_at, value_counts_at};
-ghost use Rattle.parsing.specs.Read.{number_read, passed};
-ghost use Rattle.parsing.specs.Masks.{satisfying, some_left, narrowed, FewValues};
+ghost use Rattle.meaning.specs.Reading.{values_in, value_at, value_entry_at, value_entries_at, value_list_at, set_value_at, value_counts_at};
+ghost use Rattle.parsing.specs.Read.{numbered, over, passed};
+ghost use Rattle.parsing.specs.Masks.{satisfying, some_left, narrowed, Allows, FewValues};
+ghost use Rattle.parsing.specs.Entries.{values_none, values_more, values_list};
 
 use super::bits::has_bit;
-use super::bytes::{Read, below_at, count_at, wide};
+use super::bytes::{below_at, count_at};
+use super::faults::{Fault, Refusal};
 use super::limits;
-use super::lists::Passed;
+use super::lists::Entry;
 
 // What a list leaves to each fluent: bit v of a number is there where value v satisfies all that is said of the fluent.
 pub type Allowed = [u16; limits::FLUENTS];
@@ -22,35 +24,24 @@ pub fn values_in(s: &[u8], f: usize) -> usize
     ensures value { result ≡ values_in s.now f }
     ensures upper_bound { result < 256 }
 {
-    if s.len() == 0 {
+    if s.len() == 0 || usize::from(s[0]) <= f {
         return 2;
     }
-    if wide(s[0]) <= f {
-        return 2;
-    }
-    let q = f + 1;
-    if s.len() <= q {
+    if s.len() <= f + 1 {
         return 0;
     }
-    wide(s[q])
+    usize::from(s[f + 1])
 }
 
 // A literal with its two bytes.
-fn value_at(n: usize, s: &[u8], p: usize) -> Read
+fn value_at(n: usize, s: &[u8], p: usize) -> Result<(usize, usize), Fault>
     requires { n ≤ format.fluents }
-    ensures { result ≡ number_read (value_at n s.now p) }
+    ensures { numbered result ≡ value_at n s.now p }
 {
-    match below_at(n, s, p) {
-        Read::Value(f, q) => {
-            let values = values_in(s, f);
-            let bound = 2 * values;
-            match below_at(bound, s, q) {
-                Read::Value(b, e) => Read::Value(f * 256 + b, e),
-                Read::Fault(k, e) => Read::Fault(k, e),
-            }
-        }
-        Read::Fault(k, q) => Read::Fault(k, q),
-    }
+    let (f, second) = below_at(n, s, p)?;
+    let values = values_in(s, f);
+    let (said, after) = below_at(2 * values, s, second)?;
+    Ok((f * 256 + said, after))
 }
 
 // The values that satisfy a literal.
@@ -71,15 +62,7 @@ pub fn some_left(m: u16, values: usize) -> bool
     requires { values ≤ Limits.most_values }
     ensures { result ≡ some_left m values }
 {
-    let mut v = 0;
-    while v < values {
-        let there = has_bit(m, v);
-        if there {
-            return true;
-        }
-        v += 1;
-    }
-    false
+    (0..values).any(|v| has_bit(m, v))
 }
 
 // What a literal leaves to its fluent.
@@ -89,88 +72,67 @@ pub fn narrow(allowed: &mut Allowed, l: usize)
     ensures { allowed.new ≡ narrowed l allowed.old }
 {
     let f = l / 256;
-    let left = satisfying(l);
-    allowed[f] = allowed[f] & left;
+    allowed[f] &= satisfying(l);
 }
 
-fn value_entries_at(n: usize, s: &[u8], count: usize, start: usize) -> Passed
-    requires n_le_fluents { n ≤ format.fluents }
-    requires few_values { FewValues s.now }
-    ensures { result ≡ passed (value_entries_at n s.now count start []) }
-{
-    let mut left = count;
-    let mut p = start;
-    let mut floor: usize = 0;
-    let mut allowed = [EVERY_VALUE; limits::FLUENTS];
-    while 0 < left {
-        match value_at(n, s, p) {
-            Read::Value(x, q) => {
-                if x < floor {
-                    return Passed::Fault(limits::NOT_ABOVE, p);
-                }
-                narrow(&mut allowed, x);
-                let f = x / 256;
-                let values = values_in(s, f);
-                let some = some_left(allowed[f], values);
-                if some {
-                    floor = x + 1;
-                    p = q;
-                    left -= 1;
-                    continue;
-                }
-                return Passed::Fault(limits::COMPLEMENT_BESIDE, p);
-            }
-            Read::Fault(k, q) => {
-                return Passed::Fault(k, q);
-            }
+// Of a list of literals it is kept what those so far leave.
+impl Entry for Allowed {
+    ghost list = { λ first n most s p. value_list_at n most s p };
+
+    ghost entries = { λ first n s left p before. value_entries_at n s left p before };
+
+    ghost entry = { λ first n s p before. value_entry_at n s p before };
+
+    ghost asks = { FewValues };
+
+    ghost kept = { λ first now s before. Allows s before now };
+
+    fn entry_at(
+        &mut self,
+        n: usize,
+        s: &[u8],
+        p: usize,
+        floor: usize,
+    ) -> Result<(usize, usize), Fault> {
+        let (x, after) = value_at(n, s, p)?;
+        if x < floor {
+            return Err(Refusal::NotAbove.at(p));
         }
+        narrow(self, x);
+        let f = x / 256;
+        if !some_left(self[f], values_in(s, f)) {
+            return Err(Refusal::ComplementBeside.at(p));
+        }
+        Ok((x, after))
     }
-    Passed::To(p)
-}
 
-pub fn value_list_at(n: usize, most: usize, s: &[u8], p: usize) -> Passed
-    requires n_le_fluents { n ≤ format.fluents }
-    requires few_values { FewValues s.now }
-    ensures { result ≡ passed (value_list_at n most s.now p) }
-{
-    match count_at(0, most, s, p) {
-        Read::Value(c, q) => value_entries_at(n, s, c, q),
-        Read::Fault(k, q) => Passed::Fault(k, q),
-    }
+    ghost none_law = { λ first. values_none };
+
+    ghost more_law = { λ first. values_more };
+
+    ghost list_law = { λ first. values_list };
 }
 
 // The literal of an effect.
-pub fn set_value_at(n: usize, s: &[u8], p: usize) -> Read
+pub fn set_value_at(n: usize, s: &[u8], p: usize) -> Result<(usize, usize), Fault>
     requires { n ≤ format.fluents }
-    ensures { result ≡ number_read (set_value_at n s.now p) }
+    ensures { numbered result ≡ set_value_at n s.now p }
 {
-    match value_at(n, s, p) {
-        Read::Value(x, q) => {
-            if x % 2 == 0 {
-                return Read::Value(x, q);
-            }
-            Read::Fault(limits::SAYS_IS_NOT, p)
-        }
-        Read::Fault(k, q) => Read::Fault(k, q),
+    let (x, after) = value_at(n, s, p)?;
+    if x % 2 != 0 {
+        return Err(Refusal::SaysIsNot.at(p));
     }
+    Ok((x, after))
 }
 
-// The numbers of values of so many fluents.
-pub fn value_counts_at(count: usize, s: &[u8], start: usize) -> Passed
-    ensures { result ≡ passed (value_counts_at count s.now start) }
+// The numbers of values of so many fluents: the place after them.
+pub fn value_counts_at(count: usize, s: &[u8], start: usize) -> Result<usize, Fault>
+    ensures { over result ≡ passed (value_counts_at count s.now start) }
 {
-    let mut left = count;
     let mut p = start;
-    while 0 < left {
-        match count_at(limits::FEWEST_VALUES, limits::VALUES, s, p) {
-            Read::Value(_, q) => {
-                p = q;
-                left -= 1;
-            }
-            Read::Fault(k, q) => {
-                return Passed::Fault(k, q);
-            }
-        }
+    for _ in 0..count {
+        let (_, after) = count_at(limits::FEWEST_VALUES, limits::VALUES, s, p)?;
+        p = after;
     }
-    Passed::To(p)
+    Ok(p)
 }

@@ -9,7 +9,7 @@ use std::rt::Files;
 const NAME: &str = "/proc/self/fd/3";
 
 // What the system says of the descriptor: its place in the file, and by octal digits how it is open.
-const SAID: &[u8] = b"/proc/self/fdinfo/3";
+const SAID: &str = "/proc/self/fdinfo/3";
 
 const SAID_ROOM: usize = 1024;
 
@@ -17,7 +17,7 @@ const SAID_ROOM: usize = 1024;
 const BAD_DESCRIPTOR: i32 = 9;
 
 // How a descriptor is open: the lowest two bits say that it only reads, or only writes, and another that it appends.
-const WAYS: u64 = 4;
+const WAYS: u64 = 3;
 
 const ONLY_READS: u64 = 0;
 
@@ -40,14 +40,10 @@ fn descriptor_told(text: &str) -> Option<Descriptor> {
 // The descriptor, where it is open in another way than this one.
 fn open_descriptor<R: Files>(rt: &R, excluded: u64) -> io::Result<Descriptor> {
     let mut room = [0u8; SAID_ROOM];
-    if let Some(text) = told_in(rt, SAID, &mut room) {
-        if let Some(found) = descriptor_told(text) {
-            if found.flags % WAYS != excluded {
-                return Ok(found);
-            }
-        }
-    }
-    Err(io::Error::from_raw_os_error(BAD_DESCRIPTOR))
+    told_in(rt, SAID, &mut room)
+        .and_then(descriptor_told)
+        .filter(|found| found.flags & WAYS != excluded)
+        .ok_or(io::Error::from_raw_os_error(BAD_DESCRIPTOR))
 }
 
 // A pipe has no places, and stays where it is.
@@ -67,7 +63,7 @@ pub fn open_index<R: Files>(rt: &R) -> io::Result<R::File> {
 // Nothing of the file is cut off.
 pub fn open_answer<R: Files>(rt: &R) -> io::Result<R::File> {
     let found = open_descriptor(rt, ONLY_READS)?;
-    let appends = found.flags / APPENDS % 2 == 1;
+    let appends = found.flags & APPENDS != 0;
     let mut file = OpenOptions::new()
         .write(true)
         .append(appends)

@@ -6,24 +6,24 @@
 mod descriptor; // the file that the script has open on descriptor 3
 pub mod words; // what the numbers say in words
 
-ghost use Rattle.std.specs.Prelude.{◌≤◌, leb, length, ◌≡◌};
+ghost use Rattle.std.specs.Prelude.{leb, ◌≡◌};
 ghost use Rattle.std.specs.Io.{ReadsAtMost};
-ghost use Rattle.programs.specs.Input.{Within};
 ghost use Rattle.programs.specs.Stack.{needed};
 
-use comparing::parts::same_part;
 use descriptor::open_answer;
 pub use descriptor::open_index;
 use meaning::Answer;
 use parsing::limits;
 use std::env::{Env, FillError};
+use std::fmt::Display;
 use std::fs::File;
-use std::io;
-use std::io::{Cursor, ErrorKind, Read, Write};
+use std::io::{Cursor, ErrorKind, Read, Stderr, Write};
 use std::rt::Files;
+use std::{fmt, io};
 use verdicts::answers;
 
-// Room for a request and for a derivation, with a byte more, by which one that is too long is seen.
+// Room for a request and for a derivation, with a byte more, by which one that is too long is seen. The rooms here and in the programs are
+// arrays, since the project has no heap.
 pub const REQUEST_ROOM: usize = limits::REQUEST + 1;
 
 pub const DERIVATION_ROOM: usize = limits::DERIVATION + 1;
@@ -53,228 +53,283 @@ const LIMITS_ROOM: usize = 4096;
 
 const ERROR_ROOM: usize = 256;
 
-// A sign for each fluent, and the end of the line.
-const SIGNS: usize = limits::FLUENTS + 1;
-
-// How many bytes were read, or why they can't be.
-#[derive(Clone, Copy)]
-pub enum Input {
-    Bytes(usize),
-    Unreadable(io::Error),
-}
-
 // One read, and another where a signal interrupts it.
 fn read_some<R: Read>(input: &mut R, buf: &mut [u8]) -> io::Result<usize>
     ensures { ReadsAtMost result buf.new }
 {
     for _ in 0..u64::MAX {
         match input.read(buf) {
-            Ok(n) => return Ok(n),
-            Err(error) => {
-                if error.kind() != ErrorKind::Interrupted {
-                    return Err(error);
-                }
-            }
+            Err(error) if error.kind() == ErrorKind::Interrupted => continue,
+            read => return read,
         }
     }
     Err(io::Error::from(ErrorKind::Interrupted))
 }
 
-// One read, behind the bytes that are there.
-fn read_on<R: Read>(input: &mut R, buf: &mut [u8], done: usize) -> Input
-    requires { done ≤ length buf.old }
-    ensures { Within done result buf.new }
-{
-    match read_some(input, &mut buf[done..]) {
-        Ok(more) => Input::Bytes(more),
-        Err(error) => Input::Unreadable(error),
-    }
-}
-
 // Reads until buf is full or the input ends.
-pub fn read_all<R: Read>(input: &mut R, buf: &mut [u8]) -> Input
-    ensures { Within 0 result buf.new }
+pub fn read_all<R: Read>(input: &mut R, buf: &mut [u8]) -> io::Result<usize>
+    ensures { ReadsAtMost result buf.new }
 {
     let mut done = 0;
     while done < buf.len() {
-        match read_on(input, buf, done) {
-            Input::Bytes(more) => {
-                if more == 0 {
-                    return Input::Bytes(done);
-                }
-                done += more;
-            }
-            Input::Unreadable(error) => return Input::Unreadable(error),
+        let more = read_some(input, &mut buf[done..])?;
+        if more == 0 {
+            break;
         }
+        done += more;
     }
-    Input::Bytes(done)
+    Ok(done)
 }
 
-// Opens the file of this name, which is text, for reading.
-fn open_named<R: Files>(rt: &R, name: &[u8]) -> io::Result<R::File> {
+// A program as it runs: what it runs on, standard error, and its name, which lines on standard error begin with.
+#[derive(Drop)]
+pub struct Program<'a, R> {
+    pub rt: &'a R,
+    pub err: Stderr,
+    name: &'a str,
+}
+
+impl<'a> Program<'a, HostRuntime> {
+    pub fn new(rt: &'a HostRuntime, name: &'a str) -> Self {
+        Program {
+            rt,
+            err: rt.stderr(),
+            name,
+        }
+    }
+}
+
+impl<R> Program<'_, R> {
+    // A line with the program's name before it.
+    pub fn say<D: Display + Drop>(&self, text: D) -> io::Result<()> {
+        let name = self.name;
+        println!(self.err; "{name}: {text}")
+    }
+
+    // What failed, and why.
+    pub fn fail<D: Display + Drop>(&self, what: D, error: io::Error) {
+        let reason = Reason(error);
+        let _ = self.say(format_args!("{what}: {reason}"));
+    }
+
+    // What a budget is.
+    pub fn say_budget(&self) {
+        let _ = self.say("a budget is a decimal number up to 4294967295");
+    }
+
+    // A line that begins with this text and the name of a file, which is written as bytes, since it may be no text.
+    fn say_of<S: Display + Drop, D: Display + Drop>(
+        &self,
+        said: S,
+        file: &[u8],
+        text: D,
+    ) -> io::Result<()> {
+        self.err.print(said)?;
+        self.err.write_all(file)?;
+        println!(self.err; ": {text}")
+    }
+}
+
+impl<R: io::Input> Program<'_, R> {
+    // Reads standard input as far as buf goes. Where it can't be read a line says why.
+    pub fn read_input(&self, buf: &mut [u8]) -> io::Result<usize>
+        ensures { ReadsAtMost result buf.new }
+    {
+        let read = read_all(&mut self.rt.reader(), buf);
+        if let Err(error) = read {
+            self.fail("standard input", error);
+        }
+        read
+    }
+
+    // Reads a request from standard input, and answers it. What fails a line says.
+    pub fn answer_input<F: FnOnce(&[u8]) -> io::Result<()> + Drop>(&self, answer: F)
+        requires { F.IsAlwaysCallable answer }
+    {
+        // One byte more than a request may have: a longer one is refused whatever it holds.
+        let mut bytes = [0u8; REQUEST_ROOM];
+        let Ok(n) = self.read_input(&mut bytes) else {
+            return;
+        };
+        if let Err(error) = answer(&bytes[..n]) {
+            self.fail("standard output", error);
+        }
+    }
+}
+
+impl<R: Files> Program<'_, R> {
+    // Reads the file of this name as far as buf goes. Where it can't be read a line says why, with `said` before the name.
+    pub fn read_file(&self, said: &str, name: &[u8], buf: &mut [u8]) -> io::Result<usize>
+        ensures { ReadsAtMost result buf.new }
+    {
+        let read = read_named(self.rt, name, buf);
+        if let Err(error) = read {
+            let _ = self.say_of(said, name, Reason(error));
+        }
+        read
+    }
+
+    // There is stack enough to walk a request of this length. Where there is not, a line says so, with the name of the request's file, if it has one.
+    pub fn stack_is_enough(&self, file: Option<&[u8]>, length: usize) -> bool {
+        let needed = stack_needed(length);
+        let limit = stack_limit(self.rt);
+        if is_enough(needed, limit) {
+            return true;
+        }
+        let small = TooSmall { needed, limit };
+        let name = self.name;
+        let _ = match file {
+            Some(file) => self.say_of(format_args!("{name}: "), file, small),
+            None => self.say(small),
+        };
+        false
+    }
+}
+
+impl<R: Env + Files> Program<'_, R> {
+    // Reads the file that the program's argument i names, as far as buf goes. Where it can't be read a line says why, with `said` before the
+    // file's name, or, where that can't be had, with the program's.
+    pub fn read_argument(&self, said: &str, i: usize, buf: &mut [u8]) -> io::Result<usize>
+        ensures { ReadsAtMost result buf.new }
+    {
+        let mut name = [0u8; NAME_ROOM];
+        match self.word_at(i, &mut name) {
+            Ok(n) => self.read_file(said, &name[..n], buf),
+            Err(error) => {
+                self.fail("file name", error);
+                Err(error)
+            }
+        }
+    }
+}
+
+impl<R: Env> Program<'_, R> {
+    // How many words the program was started with, its own name among them.
+    pub fn word_count(&self) -> usize {
+        let mut text = [0u8; 1];
+        for i in 0..usize::MAX {
+            if let Err(FillError::NotPresent) = self.rt.arg(i, &mut text) {
+                return i;
+            }
+        }
+        usize::MAX
+    }
+
+    // Argument i at the start of buf, and its length; or why it is not there.
+    pub fn word_at(&self, i: usize, buf: &mut [u8]) -> io::Result<usize>
+        ensures { ReadsAtMost result buf.new }
+    {
+        match self.rt.arg(i, buf) {
+            Ok(n) => Ok(n),
+            Err(FillError::TooLong) => Err(io::Error::from_raw_os_error(NAME_TOO_LONG)),
+            Err(FillError::NotPresent) => Err(io::Error::from_raw_os_error(INVALID_ARGUMENT)),
+        }
+    }
+
+    // The file's name that argument i is. Of one that is longer than any it is as many bytes as there is room for, and no file can be opened by these.
+    pub fn name_at<'a>(&self, i: usize, room: &'a mut [u8; NAME_ROOM]) -> &'a [u8] {
+        let n = self.word_at(i, room).unwrap_or(NAME_ROOM);
+        &room[..n]
+    }
+
+    // Argument i of the program is this word.
+    pub fn is_word(&self, i: usize, word: &[u8]) -> bool {
+        let mut text = [0u8; NAME_ROOM];
+        match self.word_at(i, &mut text) {
+            Ok(n) => &text[..n] == word,
+            Err(_) => false,
+        }
+    }
+
+    // The argument that is so many from the end, counted from 1, is this option.
+    pub fn option_asked(&self, from_end: usize, option: &[u8]) -> bool {
+        let count = self.word_count();
+        count > from_end && self.is_word(count - from_end, option)
+    }
+
+    // The number that argument i writes. One that is missing, or longer than any number, writes none.
+    pub fn number_at(&self, i: usize) -> Option<u32> {
+        let mut text = [0u8; NAME_ROOM];
+        let n = self.word_at(i, &mut text).ok()?;
+        number_of(&text[..n])
+    }
+
+    // The program has so many words of its name and options. Without an argument beside them BUDGET, and with one, which comes first, the number that it
+    // writes.
+    pub fn budget_asked(&self, words: usize) -> Option<u32> {
+        match self.word_count().saturating_sub(words) {
+            0 => Some(BUDGET),
+            1 => self.number_at(1),
+            _ => None,
+        }
+    }
+}
+
+impl<R: Print + Files> Program<'_, R> {
+    // Prints what a call has written to the start of a room, or for every answer but 0 the answer on standard error. Where the script asks for it, it is
+    // told the answer as well, of which it makes the exit status.
+    pub fn put_written(&self, answer: Answer, room: &[u8], told: bool) -> io::Result<()> {
+        let numbers = Numbers(answer);
+        if answer.number != answers::VERIFIED {
+            self.err.println(numbers)?;
+        } else {
+            let written = room.get(..answer.count as usize).ok_or(io::Error::other(
+                "more was written than there is room for",
+            ))?;
+            self.rt.write_all(written)?;
+        }
+        if told {
+            return tell(self.rt, numbers);
+        }
+        Ok(())
+    }
+}
+
+// Reads the file of this name, which is text, as far as buf goes.
+fn read_named<R: Files>(rt: &R, name: &[u8], buf: &mut [u8]) -> io::Result<usize>
+    ensures { ReadsAtMost result buf.new }
+{
     if name.len() >= NAME_ROOM {
         return Err(io::Error::from_raw_os_error(NAME_TOO_LONG));
     }
-    match str::from_utf8(name) {
-        Ok(name) => File::open(rt, name),
-        Err(_) => Err(io::Error::from_raw_os_error(NO_TEXT)),
-    }
+    let Ok(name) = str::from_utf8(name) else {
+        return Err(io::Error::from_raw_os_error(NO_TEXT));
+    };
+    let mut file = File::open(rt, name)?;
+    read_all(&mut file, buf)
 }
 
-// Reads the file of this name as far as buf goes.
-fn read_named<R: Files>(rt: &R, name: &[u8], buf: &mut [u8]) -> Input
-    ensures { Within 0 result buf.new }
-{
-    match open_named(rt, name) {
-        Ok(mut file) => read_all(&mut file, buf),
-        Err(error) => Input::Unreadable(error),
-    }
-}
+// An error in words. Those of the system stand there without its number, which follows them in what std writes.
+#[derive(Clone, Copy)]
+pub struct Reason(pub io::Error);
 
-// Reads the file of this name as far as buf goes. Where it can't be read a line says why, with `said` before the name.
-pub fn read_file<R: Files, E: Write>(
-    rt: &R,
-    err: &mut E,
-    said: &[u8],
-    name: &[u8],
-    buf: &mut [u8],
-) -> Input
-    ensures { Within 0 result buf.new }
-{
-    let read = read_named(rt, name, buf);
-    if let Input::Unreadable(error) = read {
-        let _ = say_failed(err, said, name, error);
-    }
-    read
-}
-
-// What failed and why, in a line on standard error.
-pub fn fail<E: Write>(err: &mut E, what: &[u8], error: io::Error) {
-    let _ = say_failed(err, b"", what, error);
-}
-
-fn say_failed<E: Write>(err: &mut E, said: &[u8], what: &[u8], error: io::Error) -> io::Result<()> {
-    err.write_all(said)?;
-    err.write_all(what)?;
-    err.write_all(b": ")?;
-    put_reason(err, error)?;
-    err.write_all(b"\n")
-}
-
-// The error in words. Those of the system stand there without its number, which follows them in what std writes.
-fn put_reason<E: Write>(err: &mut E, error: io::Error) -> io::Result<()> {
-    let mut text = Cursor::new([0u8; ERROR_ROOM]);
-    write!(text, "{error}")?;
-    let length = text.position() as usize;
-    let bytes = text.into_inner();
-    if bytes.len() < length {
-        return Ok(());
-    }
-    match str::from_utf8(&bytes[..length]) {
-        Ok(words) => err.write_all(without_number(words).as_bytes()),
-        Err(_) => Ok(()),
+impl Display for Reason {
+    fn fmt<W: fmt::Write>(&self, f: &mut fmt::Formatter<W>) -> fmt::Result {
+        let error = self.0;
+        let mut text = Cursor::new([0u8; ERROR_ROOM]);
+        write!(text, "{error}").map_err(|_| fmt::Error)?;
+        let length = text.position() as usize;
+        let bytes = text.into_inner();
+        let words = bytes
+            .get(..length)
+            .and_then(|said| str::from_utf8(said).ok())
+            .unwrap_or_default();
+        f.write_str(without_number(words))
     }
 }
 
 fn without_number(words: &str) -> &str {
-    match words.split_once(" (os error ") {
-        Some((before, _)) => before,
-        None => words,
-    }
+    words
+        .split_once(" (os error ")
+        .map_or(words, |(before, _)| before)
 }
 
-// How many words the program was started with, its own name among them.
-pub fn word_count(rt: &impl Env) -> usize {
-    let mut text = [0u8; 1];
-    for i in 0..usize::MAX {
-        if let Err(FillError::NotPresent) = rt.arg(i, &mut text) {
-            return i;
-        }
+// The number that these decimal digits write, as far as 32 bits go. `parse` alone would take a sign before them.
+pub fn number_of(text: &[u8]) -> Option<u32> {
+    if !text.iter().all(|byte| byte.is_ascii_digit()) {
+        return None;
     }
-    usize::MAX
-}
-
-// Argument i at the start of buf, and its length; or why it is not there.
-pub fn word_at(rt: &impl Env, i: usize, buf: &mut [u8]) -> io::Result<usize>
-    ensures { ReadsAtMost result buf.new }
-{
-    match rt.arg(i, buf) {
-        Ok(n) => Ok(n),
-        Err(FillError::TooLong) => Err(io::Error::from_raw_os_error(NAME_TOO_LONG)),
-        Err(FillError::NotPresent) => Err(io::Error::from_raw_os_error(INVALID_ARGUMENT)),
-    }
-}
-
-// Argument i of the program is this word.
-pub fn is_word(rt: &impl Env, i: usize, word: &[u8]) -> bool {
-    let mut text = [0u8; NAME_ROOM];
-    match word_at(rt, i, &mut text) {
-        Ok(n) => same_part(&text[..n], word),
-        Err(_) => same_part(b"", word),
-    }
-}
-
-// The argument that is so many from the end, counted from 1, is this option.
-pub fn option_asked(rt: &impl Env, from_end: usize, option: &[u8]) -> bool {
-    let count = word_count(rt);
-    if count <= from_end {
-        return false;
-    }
-    is_word(rt, count - from_end, option)
-}
-
-// The number that an argument writes, or that it writes none.
-#[derive(Clone, Copy)]
-pub enum Asked {
-    Number(u32),
-    Nothing,
-}
-
-// The number that these decimal digits write, as far as 32 bits go.
-pub fn number_of(text: &[u8]) -> Asked {
-    let mut number = 0u64;
-    let mut i = 0;
-    while i < text.len() {
-        let digit = text[i];
-        if digit < b'0' {
-            return Asked::Nothing;
-        }
-        if digit > b'9' {
-            return Asked::Nothing;
-        }
-        let value = digit - b'0';
-        number = number * 10 + value as u64;
-        if number > 4294967295 {
-            return Asked::Nothing;
-        }
-        i += 1;
-    }
-    if i == 0 {
-        return Asked::Nothing;
-    }
-    Asked::Number(number as u32)
-}
-
-// The number that argument i writes. One that is missing, or longer than any number, writes none.
-pub fn number_at(rt: &impl Env, i: usize) -> Asked {
-    let mut text = [0u8; NAME_ROOM];
-    match word_at(rt, i, &mut text) {
-        Ok(n) => number_of(&text[..n]),
-        Err(_) => Asked::Nothing,
-    }
-}
-
-// The program has so many words of its name and options. Without an argument beside them BUDGET, and with one, which comes first, the number that it
-// writes.
-pub fn budget_asked(rt: &impl Env, words: usize) -> Asked {
-    let count = word_count(rt);
-    if count <= words {
-        return Asked::Number(BUDGET);
-    }
-    if count - words > 1 {
-        return Asked::Nothing;
-    }
-    number_at(rt, 1)
+    str::from_utf8(text).ok()?.parse::<u32>().ok()
 }
 
 // The word behind this label, without the blanks between them.
@@ -284,11 +339,10 @@ fn word_behind<'a>(text: &'a str, label: &str) -> Option<&'a str> {
 }
 
 // What the system says of the process in this file, as far as there is room for it.
-fn told_in<'a, R: Files>(rt: &R, name: &[u8], room: &'a mut [u8]) -> Option<&'a str> {
-    match read_named(rt, name, room) {
-        Input::Bytes(n) => str::from_utf8(&room[..n]).ok(),
-        Input::Unreadable(_) => None,
-    }
+fn told_in<'a, R: Files>(rt: &R, file: &str, room: &'a mut [u8]) -> Option<&'a str> {
+    let mut file = File::open(rt, file).ok()?;
+    let n = read_all(&mut file, room).ok()?;
+    str::from_utf8(&room[..n]).ok()
 }
 
 // The soft limit of the process's stack in bytes, which stands first in its line. Where the system doesn't tell it, it is 0.
@@ -302,10 +356,7 @@ fn limit_told(text: &str) -> u64 {
 
 fn stack_limit(rt: &impl Files) -> u64 {
     let mut room = [0u8; LIMITS_ROOM];
-    match told_in(rt, b"/proc/self/limits", &mut room) {
-        Some(text) => limit_told(text),
-        None => 0,
-    }
+    told_in(rt, "/proc/self/limits", &mut room).map_or(0, limit_told)
 }
 
 // What the walk of a request of this length may need.
@@ -313,9 +364,10 @@ fn stack_needed(length: usize) -> u64
     ensures { result ≡ needed length }
 {
     if length <= SHORT {
-        return SHORT_STACK_NEEDED;
+        SHORT_STACK_NEEDED
+    } else {
+        STACK_NEEDED
     }
-    STACK_NEEDED
 }
 
 // A stack without a limit is told by the largest number.
@@ -325,168 +377,107 @@ fn is_enough(needed: u64, limit: u64) -> bool
     needed <= limit
 }
 
-// There is stack enough to walk a request of this length. Where there is not, a line says so, with `said` and `name` at its start.
-pub fn stack_is_enough<R: Files, E: Write>(
-    rt: &R,
-    err: &mut E,
-    said: &[u8],
-    name: &[u8],
-    length: usize,
-) -> bool {
-    let needed = stack_needed(length);
-    let limit = stack_limit(rt);
-    if is_enough(needed, limit) {
-        return true;
-    }
-    let _ = say_too_small(err, said, name, needed, limit);
-    false
-}
-
-fn say_too_small<E: Write>(
-    err: &mut E,
-    said: &[u8],
-    name: &[u8],
+// The stack that a walk may need, and the limit, which is less.
+#[derive(Clone, Copy)]
+struct TooSmall {
     needed: u64,
     limit: u64,
-) -> io::Result<()> {
-    err.write_all(said)?;
-    err.write_all(name)?;
-    writeln!(
-        err,
-        ": the stack is too small: a walk may need {needed} bytes, and the limit is {limit}"
-    )
 }
 
-pub fn put(rt: &impl Print, bytes: &[u8]) -> io::Result<()> {
-    rt.write_all(bytes)
+impl Display for TooSmall {
+    fn fmt<W: fmt::Write>(&self, f: &mut fmt::Formatter<W>) -> fmt::Result {
+        let TooSmall { needed, limit } = *self;
+        write!(
+            f,
+            "the stack is too small: a walk may need {needed} bytes, and the limit is {limit}"
+        )
+    }
 }
 
-pub fn put_number(rt: &impl Print, n: u64) -> io::Result<()> {
-    rt.print(n)
-}
-
-// A line with three numbers.
-pub fn put_line<W: Write>(to: &mut W, first: u64, second: u64, third: u64) -> io::Result<()> {
-    writeln!(to, "{first} {second} {third}")
-}
-
-// The same on descriptor 3, on which a script is told the answer of a program that writes bytes.
-pub fn tell<R: Files>(rt: &R, first: u64, second: u64, third: u64) -> io::Result<()> {
+// The line is told on descriptor 3, where a script looks for the answer of a program that prints something else.
+pub fn tell<R: Files, D: Display + Drop>(rt: &R, line: D) -> io::Result<()> {
     let mut script = open_answer(rt)?;
-    put_line(&mut script, first, second, third)
+    writeln!(script, "{line}")
 }
 
-fn put_answer<W: Write>(to: &mut W, answer: Answer) -> io::Result<()> {
-    put_line(
-        to,
-        answer.number as u64,
-        answer.place as u64,
-        answer.count as u64,
-    )
-}
+// An answer to a request as a program prints it: its number, place and count.
+#[derive(Clone, Copy)]
+pub struct Numbers(pub Answer);
 
-// The bytes that a call has written to the start of a room, or for every answer but 0 the answer on standard error.
-fn put_start<E: Write>(
-    rt: &impl Print,
-    err: &mut E,
-    answer: Answer,
-    room: &[u8],
-) -> io::Result<()> {
-    if answer.number != answers::VERIFIED {
-        return put_answer(err, answer);
+impl Display for Numbers {
+    fn fmt<W: fmt::Write>(&self, f: &mut fmt::Formatter<W>) -> fmt::Result {
+        let Answer {
+            number,
+            place,
+            count,
+            ..
+        } = self.0;
+        write!(f, "{number} {place} {count}")
     }
-    let length = answer.count as usize;
-    if room.len() < length {
-        return Err(io::Error::other("more was written than there is room for"));
-    }
-    put(rt, &room[..length])
 }
 
-// The same, and where the script asks for it, it is told the answer as well, of which it makes the exit status.
-pub fn put_written<R: Print + Files, E: Write>(
-    rt: &R,
-    err: &mut E,
-    answer: Answer,
-    room: &[u8],
-    told: bool,
-) -> io::Result<()> {
-    put_start(rt, err, answer, room)?;
-    if told {
-        return tell(
-            rt,
-            answer.number as u64,
-            answer.place as u64,
-            answer.count as u64,
-        );
+// The marks of a request's fluents, at the start of a state. The first byte of a request that was walked is its fluent count.
+pub fn marks_left<'a>(request: &[u8], state: &'a [u8; limits::FLUENTS]) -> io::Result<&'a [u8]> {
+    match request.first() {
+        Some(fluents) => Ok(&state[..state.len().min(usize::from(*fluents))]),
+        None => Err(io::Error::from(ErrorKind::InvalidData)),
     }
-    Ok(())
 }
 
-fn sign(mark: u8) -> u8 {
+// A sign for each of these marks.
+#[derive(Clone, Copy)]
+pub struct Signs<'a>(pub &'a [u8]);
+
+impl Display for Signs<'_> {
+    fn fmt<W: fmt::Write>(&self, f: &mut fmt::Formatter<W>) -> fmt::Result {
+        for mark in self.0 {
+            f.write_char(sign(*mark))?;
+        }
+        Ok(())
+    }
+}
+
+// Kept: a state is lent as bytes, which the calls' contracts speak of, and this match is the format's table of marks with a sign beside each (FORMAT 12.4).
+fn sign(mark: u8) -> char {
     match mark {
-        0 => b'?',
-        1 => b'+',
-        _ => b'-',
+        limits::UNKNOWN_MARK => '?',
+        limits::TRUE_MARK => '+',
+        _ => '-',
     }
 }
 
-// The line with a sign for each fluent.
-pub fn put_state(rt: &impl Print, state: &[u8; limits::FLUENTS], fluents: u8) -> io::Result<()> {
-    let mut line = [b'\n'; SIGNS];
-    let mut f = 0;
-    while f < limits::FLUENTS {
-        if f >= fluents as usize {
-            break;
+// The value that each of these marks says, which is one less than the mark, or `?`; with a space between them.
+#[derive(Clone, Copy)]
+pub struct Values<'a>(pub &'a [u8]);
+
+impl Display for Values<'_> {
+    fn fmt<W: fmt::Write>(&self, f: &mut fmt::Formatter<W>) -> fmt::Result {
+        for (f_at, mark) in self.0.iter().enumerate() {
+            let space = if f_at > 0 { " " } else { "" };
+            if *mark == limits::UNKNOWN_MARK {
+                write!(f, "{space}?")?;
+            } else {
+                let value = *mark - 1;
+                write!(f, "{space}{value}")?;
+            }
         }
-        line[f] = sign(state[f]);
-        f += 1;
+        Ok(())
     }
-    let end = f + 1;
-    put(rt, &line[..end])
-}
-
-// The value that is known of fluent f, which is one less than its mark, or `?`. A space stands before it where f is not the first.
-fn put_value(rt: &impl Print, f: usize, mark: u8) -> io::Result<()> {
-    if f > 0 {
-        put(rt, b" ")?;
-    }
-    if mark == limits::UNKNOWN_MARK {
-        return put(rt, b"?");
-    }
-    put_number(rt, (mark - 1) as u64)
-}
-
-// The line with the value of each fluent.
-pub fn put_values(rt: &impl Print, state: &[u8; limits::FLUENTS], fluents: u8) -> io::Result<()> {
-    let mut f = 0;
-    while f < limits::FLUENTS {
-        if f >= fluents as usize {
-            break;
-        }
-        put_value(rt, f, state[f])?;
-        f += 1;
-    }
-    put(rt, b"\n")
-}
-
-// A number behind a space.
-fn put_apart<W: Write>(to: &mut W, number: u8) -> io::Result<()> {
-    write!(to, " {number}")
 }
 
 // The first so many numbers of a row that has a place for each fluent, each behind a space.
-pub fn put_counted<W: Write>(
-    to: &mut W,
-    row: &[u8; limits::FLUENTS],
-    count: usize,
-) -> io::Result<()> {
-    let mut i = 0;
-    while i < limits::FLUENTS {
-        if i >= count {
-            break;
+#[derive(Clone, Copy)]
+pub struct Counted<'a> {
+    pub row: &'a [u8; limits::FLUENTS],
+    pub count: usize,
+}
+
+impl Display for Counted<'_> {
+    fn fmt<W: fmt::Write>(&self, f: &mut fmt::Formatter<W>) -> fmt::Result {
+        let row = self.row;
+        for number in row.iter().take(self.count) {
+            write!(f, " {number}")?;
         }
-        put_apart(to, row[i])?;
-        i += 1;
+        Ok(())
     }
-    Ok(())
 }

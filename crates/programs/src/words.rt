@@ -1,11 +1,25 @@
 // What the answers' numbers say in words (FORMAT 12.34), which are those of the C header and of the Rust crate.
-use std::io;
-use std::io::Write;
+use std::fmt;
+use std::fmt::Display;
 
-pub fn put_words<W: Write>(to: &mut W, number: u8) -> io::Result<()> {
-    to.write_all(words(number).as_bytes())
+// The number of an answer, which is written in words.
+#[derive(Clone, Copy)]
+pub struct InWords(pub u8);
+
+impl InWords {
+    pub fn as_str(self) -> &'static str {
+        words(self.0)
+    }
 }
 
+impl Display for InWords {
+    fn fmt<W: fmt::Write>(&self, f: &mut fmt::Formatter<W>) -> fmt::Result {
+        f.write_str(self.as_str())
+    }
+}
+
+// Kept: an answer's number is a byte of `Answer`, and this list is the format's table, a number and its words to a line. Names in place of the
+// numbers would say the words twice.
 fn words(number: u8) -> &'static str {
     match number {
         0 => "verified",

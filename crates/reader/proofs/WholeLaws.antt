@@ -8,6 +8,9 @@ use lib.ListN.{length, get_or, set}
 use lib.Seq.{set-set}
 use lib.Dec.{ltb}
 use borrow.Author.Tests.{lt-ltb, le-ltb, ltb-false}
+use Rattle.std.specs.Prelude.{Ok, Err}
+use Rattle.parsing.specs.declared.faults.Fault.{Fault}
+use Rattle.parsing.specs.declared.faults.Refusal.TheVariants.{TooLong, BytesAfter}
 use Rattle.meaning.specs.Tests.{pick}
 use Rattle.meaning.proofs.TestLaws.{pick_true, pick_false}
 use Rattle.meaning.proofs.SettledLaws.{next_got, got_same}
@@ -19,10 +22,8 @@ use Rattle.meaning.specs.Reading.{Got, got, fault, next, literals, fluents, coun
 use Rattle.meaning.specs.Guards.{GuardedRequest, read_guarded}
 use Rattle.meaning.proofs.RangeLaws.{not_refused, after_got, count_within}
 use Rattle.parsing.specs.declared.lists.Kind.TheVariants.{Literals}
-use Rattle.parsing.specs.declared.lists.Passed.{Passed}
-use Rattle.parsing.specs.declared.lists.Passed.TheVariants.{To, Fault as Stop}
 use Rattle.parsing.specs.Masks.{Counted}
-use Rattle.parsing.specs.Read.{passed, kind_of}
+use Rattle.parsing.specs.Read.{Passed, over, passed, kind_of}
 use Rattle.parsing.proofs.ListLaws.{passed_to, passed_stop}
 use Rattle.reading.specs.Noted.{plan_slot, items_slot, goals_slot, guards_slot, table_noted, noting, outcome}
 use Rattle.reading.specs.Requested.{Starts, plan_first, places_noted, tail_with, request_with, request_noted, guards_place, guarded_noted}
@@ -72,11 +73,11 @@ front form s p x e is =
     }
 
 module _ (form : Form) (s : List ℕ) (p : ℕ) (t u : List ℕ) (first : Passed) (read : outcome first u ≡ noting table_noted (table_at format form s p) t) where
-  pub sections_fault : (k q : ℕ) (v : List ℕ) → first ≡ Stop k q → outcome (Stop k q) v ≡ noting (request_noted form) (sections_as form s p) t
+  pub sections_fault : (why : Fault) (v : List ℕ) → first ≡ Err why → outcome (Err why) v ≡ noting (request_noted form) (sections_as form s p) t
   unfolding sections_as noting next outcome
-  sections_fault k q v is = rw (noting_fault table_noted (table_at format form s p) first t u read k q is)
+  sections_fault why v is = rw (noting_fault table_noted (table_at format form s p) first t u read why is)
 
-  module _ (q : ℕ) (is : first ≡ To q) where
+  module _ (q : ℕ) (is : first ≡ Ok q) where
     table_got : (x : Table) × (table_at format form s p ≡ got x q) × (u ≡ table_noted x t)
     table_got = noting_got table_noted (table_at format form s p) first t u read q is
 
@@ -113,11 +114,11 @@ module _ (form : Form) (s : List ℕ) (p : ℕ) (t u : List ℕ) (first : Passed
 
 -- NOTHING AFTER.
 module _ (s : List ℕ) (e : ℕ) where
-  pub more_after : e < length s → Stop 20 e ≡ passed (up_to s e)
+  pub more_after : (why : Fault) → e < length s → why ≡ record { refusal = BytesAfter; place = e } → over (Err why) ≡ passed (up_to s e)
   unfolding up_to pick passed
-  more_after h = rw (lt-ltb e (length s) h)
+  more_after why h is = rw (is, lt-ltb e (length s) h)
 
-  pub none_after : length s ≤ e → To e ≡ passed (up_to s e)
+  pub none_after : length s ≤ e → over (Ok e) ≡ passed (up_to s e)
   unfolding up_to pick passed
   none_after h = rw (le-ltb e (length s) h)
 
@@ -133,20 +134,20 @@ places_again : (plan items goals a b : ℕ) (t : List ℕ) → set (places_noted
 unfolding places_noted
 places_again plan items goals a b t = set-set (set (set (set t plan_slot plan) items_slot items) goals_slot goals) guards_slot a b
 
-module _ (s : List ℕ) (n q : ℕ) (is : n ≡ get_or s 0 0) (t : List ℕ) (guards : Passed) (read : guards ≡ passed (list_at (kind_of Literals) n 64 s q)) where
-  list_read : guards ≡ passed (list_at literals (get_or s 0 0) 64 s q)
+module _ (s : List ℕ) (n q : ℕ) (is : n ≡ get_or s 0 0) (t : List ℕ) (guards : Passed) (read : over guards ≡ passed (list_at (kind_of Literals) n 64 s q)) where
+  list_read : over guards ≡ passed (list_at literals (get_or s 0 0) 64 s q)
   unfolding kind_of
   list_read = read ∙ ap (λ (i : ℕ). passed (list_at literals i 64 s q)) is
 
-  pub guards_fault : (k p : ℕ) (v : List ℕ) → guards ≡ Stop k p → outcome (Stop k p) v ≡ guards_first s q t
+  pub guards_fault : (why : Fault) (v : List ℕ) → guards ≡ Err why → outcome (Err why) v ≡ guards_first s q t
   unfolding guards_first next outcome
-  guards_fault k p v stops = rw (passed_stop (list_at literals (get_or s 0 0) 64 s q) k p (sym list_read ∙ stops))
+  guards_fault why v stops = rw (passed_stop (list_at literals (get_or s 0 0) 64 s q) why (sym list_read ∙ ap over stops))
 
-  pub guards_there : (e : ℕ) (r : Passed) (u : List ℕ) → guards ≡ To e → u ≡ set t guards_slot q → r ≡ passed (up_to s e) → outcome r u ≡ guards_first s q t
+  pub guards_there : (e : ℕ) (r : Passed) (u : List ℕ) → guards ≡ Ok e → u ≡ set t guards_slot q → over r ≡ passed (up_to s e) → outcome r u ≡ guards_first s q t
   unfolding guards_first next
   guards_there e r u goes noted ends =
-      rw (passed_to (list_at literals (get_or s 0 0) 64 s q) e (sym list_read ∙ goes)).1
-      (ap (λ (y : Passed). outcome y u) ends ∙ passed_outcome (up_to s e) u ∙ ap (λ (v : List ℕ). next (up_to s e) (λ _ i. got v i)) noted)
+      rw (passed_to (list_at literals (get_or s 0 0) 64 s q) e (sym list_read ∙ ap over goes)).1
+      (passed_outcome (up_to s e) r u ends ∙ ap (λ (v : List ℕ). next (up_to s e) (λ _ i. got v i)) noted)
 
 -- WHAT WAS READ of all eight sections: the table from the start, and the rest behind it, up to where guards stand if there are any.
 record Behind (s : List ℕ) (x : Table) (y : Request) (q : ℕ) : Type 0 where
@@ -204,7 +205,7 @@ module _ (form : Form) (s : List ℕ) where
         ∙ sym (next_next (table_at format form s 0) _ _)
 
   -- What was read of the sections, and where guards can be read.
-  module _ (room : length s ≤ format.request) (t u : List ℕ) (all : Passed) (read : outcome all u ≡ noting (request_noted form) (sections_as form s 0) t) (e : ℕ) (is : all ≡ To e) where
+  module _ (room : length s ≤ format.request) (t u : List ℕ) (all : Passed) (read : outcome all u ≡ noting (request_noted form) (sections_as form s 0) t) (e : ℕ) (is : all ≡ Ok e) where
     all_got : (x : Request) × (sections_as form s 0 ≡ got x e) × (u ≡ request_noted form x t)
     all_got = noting_got (request_noted form) (sections_as form s 0) all t u read e is
 
@@ -228,9 +229,9 @@ module _ (form : Form) (s : List ℕ) where
   rest_plain r e = pick (ltb e (length s)) (λ _. fault 20 e) (λ _. got r e)
 
   module _ (t u : List ℕ) where
-    pub request_long : format.request < length s → outcome (Stop 10 0) u ≡ noting (request_noted form) (read_request format form s) t
+    pub request_long : (why : Fault) → format.request < length s → why ≡ record { refusal = TooLong; place = 0 } → outcome (Err why) u ≡ noting (request_noted form) (read_request format form s) t
     unfolding read_request outcome noting next
-    request_long h = rw (beyond_limit (λ _. rest_plain) h)
+    request_long why h is = rw (is, beyond_limit (λ _. rest_plain) h)
 
   module _ (room : length s ≤ format.request) where
     plain_within : read_request format form s ≡ next (sections_as form s 0) rest_plain
@@ -238,16 +239,15 @@ module _ (form : Form) (s : List ℕ) where
     plain_within = within_limit (λ _. rest_plain) room
 
     module _ (t u : List ℕ) (all : Passed) (read : outcome all u ≡ noting (request_noted form) (sections_as form s 0) t) where
-      pub request_fault : (k q : ℕ) (v : List ℕ) → all ≡ Stop k q → outcome (Stop k q) v ≡ noting (request_noted form) (read_request format form s) t
+      pub request_fault : (why : Fault) (v : List ℕ) → all ≡ Err why → outcome (Err why) v ≡ noting (request_noted form) (read_request format form s) t
       unfolding noting next outcome
-      request_fault k q v is = rw (plain_within, noting_fault (request_noted form) (sections_as form s 0) all t u read k q is)
+      request_fault why v is = rw (plain_within, noting_fault (request_noted form) (sections_as form s 0) all t u read why is)
 
-      pub request_there : (e : ℕ) (r : Passed) → all ≡ To e → r ≡ passed (up_to s e) → outcome r u ≡ noting (request_noted form) (read_request format form s) t
+      pub request_there : (e : ℕ) (r : Passed) → all ≡ Ok e → over r ≡ passed (up_to s e) → outcome r u ≡ noting (request_noted form) (read_request format form s) t
       unfolding noting next up_to
       request_there e r is h =
           let got-it = all_got room t u all read e is in
-          ap (λ (y : Passed). outcome y u) h
-          ∙ passed_outcome (up_to s e) u
+          passed_outcome (up_to s e) r u h
           ∙ rw (plain_within, got-it.1) (ap (λ (v : List ℕ). next (up_to s e) (λ _ i. got v i)) got-it.2 ∙ sym (ended (request_noted form) got-it.0 e t (ltb e (length s))))
 
 -- WITH GUARDS there is a list behind them. Only requests of flags have guards.
@@ -256,9 +256,9 @@ module _ (s : List ℕ) where
   rest_guarded n r q = next (list_at literals n 64 s q) λ guards e. pick (ltb e (length s)) (λ _. fault 20 e) (λ _. got (record { request = r; guards = placed (q + 1) guards }) e)
 
   module _ (t u : List ℕ) where
-    pub guarded_long : format.request < length s → outcome (Stop 10 0) u ≡ noting guarded_noted (read_guarded format s) t
+    pub guarded_long : (why : Fault) → format.request < length s → why ≡ record { refusal = TooLong; place = 0 } → outcome (Err why) u ≡ noting guarded_noted (read_guarded format s) t
     unfolding read_guarded outcome noting next
-    guarded_long h = rw (beyond_limit Flags s (λ x. rest_guarded x.fluents) h)
+    guarded_long why h is = rw (is, beyond_limit Flags s (λ x. rest_guarded x.fluents) h)
 
   module _ (room : length s ≤ format.request) where
     guarded_within : read_guarded format s ≡ next (sections_read s 0) (λ r q. rest_guarded r.table.fluents r q)
@@ -266,11 +266,11 @@ module _ (s : List ℕ) where
     guarded_within = within_limit Flags s (λ x. rest_guarded x.fluents) room
 
     module _ (t u : List ℕ) (all : Passed) (read : outcome all u ≡ noting (request_noted Flags) (sections_read s 0) t) where
-      pub guarded_fault : (k q : ℕ) (v : List ℕ) → all ≡ Stop k q → outcome (Stop k q) v ≡ noting guarded_noted (read_guarded format s) t
+      pub guarded_fault : (why : Fault) (v : List ℕ) → all ≡ Err why → outcome (Err why) v ≡ noting guarded_noted (read_guarded format s) t
       unfolding noting next outcome
-      guarded_fault k q v is = rw (guarded_within, noting_fault (request_noted Flags) (sections_read s 0) all t u read k q is)
+      guarded_fault why v is = rw (guarded_within, noting_fault (request_noted Flags) (sections_read s 0) all t u read why is)
 
-      module _ (e : ℕ) (is : all ≡ To e) where
+      module _ (e : ℕ) (is : all ≡ Ok e) where
         abbrev x : Request
         x = (all_got Flags s room t u all read e is).0
 
@@ -323,12 +323,6 @@ module _ (s : List ℕ) where
       on (fault n i) = Unit {0}
 
 -- BY THE FORM.
-pub second_of_flags : (form : Form) (p n : ℕ) → form ≡ Flags → p + 1 ≡ actions_place form p n
-second_of_flags form p n is = rw is
-
-pub second_of_values : (form : Form) (p n : ℕ) → form ≡ Valued → p + 1 + n ≡ actions_place form p n
-second_of_values form p n is = rw is
-
 abbrev is_valued : Form → Type 0
 is_valued Flags = ⊥
 is_valued Valued = Unit {0}
@@ -337,6 +331,10 @@ pub flags_start : (p : ℕ) → Starts Flags p
 unfolding Starts
 flags_start p e = absurd (subst is_valued (sym e) tt)
 
-pub values_start : Starts Valued 0
+pub at_the_start : (form : Form) → Starts form 0
 unfolding Starts
-values_start e = refl
+at_the_start form e = refl
+
+pub reader_starts : (form : Form) (at : ℕ) → at ≡ 0 → Starts form at
+unfolding Starts
+reader_starts form at is e = is

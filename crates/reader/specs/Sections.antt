@@ -1,12 +1,13 @@
 -- The sections of a request, read from a place on.
-use Rattle.std.specs.Prelude.{ℕ, ◌+◌, List, length, get_or, set, ltb}
+use Rattle.std.specs.Prelude.{ℕ, List, length, get_or, set, ltb}
 use Rattle.meaning.specs.Tests.{pick}
 use Rattle.meaning.specs.Limits
 use Rattle.meaning.specs.Limits.{format}
 use Rattle.meaning.specs.Requests.{Request}
 use Rattle.meaning.specs.declared.Form.{Form}
-use Rattle.meaning.specs.declared.Form.TheVariants.{Flags, Valued}
+use Rattle.meaning.specs.declared.Form.TheVariants.{Flags}
 use Rattle.meaning.specs.Reading.{Got, got, fault, next, literals, list_at, table_at, request_at}
+pub use Rattle.parsing.specs.Read.{actions_place}
 use Rattle.reading.specs.Noted.{guards_slot}
 
 -- Whatever their length and whatever follows (FORMAT 2.11).
@@ -15,11 +16,6 @@ sections_as form s p = next (table_at format form s p) λ x q. request_at format
 
 abbrev pub sections_read : List ℕ → ℕ → Got Request
 sections_read = sections_as Flags
-
--- Where the actions' count stands: behind the fluents' count, and with values behind how many each fluent has (FORMAT 2.12, 26.2).
-abbrev pub actions_place : Form → (p fluents : ℕ) → ℕ
-actions_place Flags p n = p + 1
-actions_place Valued p n = p + 1 + n
 
 -- Nothing stands behind e (FORMAT 5.15).
 unfoldable pub up_to : List ℕ → ℕ → Got (Unit {0})

@@ -2,22 +2,21 @@
 use Prim.Native.Nat.{ℕ, zero, suc, ◌+◌, ◌-◌, ◌≤◌, ◌<◌}
 use native.Mathlib.Omega.{arith}
 use native.Mathlib.Numerals.{sub-one}
-use mathlib.Core.Path.{◌≡◌, refl, sym, ◌∙◌, ap}
+use mathlib.Core.Path.{◌≡◌, refl, sym, ◌∙◌, ap, subst}
 use mathlib.Core.List.{List}
 use lib.ListN.{length}
+use Rattle.std.specs.Prelude.{Ok, Err}
+use Rattle.parsing.specs.declared.faults.Fault.{Fault}
+use Rattle.parsing.specs.declared.faults.Refusal.TheVariants.{NestedTooDeep}
 use Rattle.meaning.specs.Limits.{format}
 use Rattle.meaning.specs.Requests.{Sequence, branching, Branches, branch}
 use Rattle.meaning.specs.declared.Form.{Form}
 use Rattle.meaning.specs.Reading.{Got, got, fault, next, Met, Part, count_at, body_at, sequence_at, branches_at, branching_at}
 use Rattle.meaning.proofs.SettledLaws.{next_got}
-use Rattle.parsing.specs.declared.bytes.Read.{Read}
-use Rattle.parsing.specs.declared.bytes.Read.TheVariants.{Value, Fault}
-use Rattle.parsing.specs.declared.lists.Passed.{Passed}
-use Rattle.parsing.specs.declared.lists.Passed.TheVariants.{To, Fault as Stop}
-use Rattle.parsing.specs.Read.{number_read, passed}
+use Rattle.parsing.specs.Read.{Numbered, Passed, numbered, over, stopped, passed}
 use Rattle.reading.specs.Listed.{span}
 use Rattle.reading.specs.Planned.{items_of, bytes_of, inside_noted, branches_noted, sequence_noted, noting_met, outcome_met, branch_noting}
-use Rattle.parsing.proofs.ByteLaws.{read_value, read_fault}
+use Rattle.parsing.proofs.ByteLaws.{was_read, was_stopped}
 use Rattle.parsing.proofs.ListLaws.{passed_to, passed_stop}
 use Rattle.reading.proofs.PlanSizes.{count_through, body_through, sequence_read}
 use Rattle.reading.proofs.NotingLaws.{Going, fault_met, met_value, noting_built, with_items}
@@ -25,21 +24,21 @@ use Rattle.reading.proofs.SectionLaws.{fault_turned}
 use Rattle.reading.specs.Noted.{around_from}
 
 -- BRANCHES.
-module _ (form : Form) (n m deep up : ℕ) (s : List ℕ) (p met : ℕ) (t : List ℕ) (body : Passed) (read : body ≡ passed (body_at format form n s p)) where
-  pub branch_fault : (k q : ℕ) (u : List ℕ) → body ≡ Stop k q → outcome_met (Fault k q) u ≡ branch_noting form n m deep up s p met t
+module _ (form : Form) (n m deep up : ℕ) (s : List ℕ) (p met : ℕ) (t : List ℕ) (body : Passed) (read : over body ≡ passed (body_at format form n s p)) where
+  pub branch_fault : (why : Fault) (u : List ℕ) → body ≡ Err why → outcome_met (Err why) u ≡ branch_noting form n m deep up s p met t
   unfolding branch_noting next outcome_met
-  branch_fault k q u is = rw (passed_stop (body_at format form n s p) k q (sym read ∙ is))
+  branch_fault why u is = rw (passed_stop (body_at format form n s p) why (sym read ∙ ap over is))
 
-  pub branch_whole : (q : ℕ) (r : Read) (u : List ℕ) → body ≡ To q
+  pub branch_whole : (q : ℕ) (r : Numbered) (u : List ℕ) → body ≡ Ok q
       → outcome_met r u ≡ noting_met (sequence_noted form up met q t) (sequence_at format form n m s (branching_at format form n m s deep) q met) → outcome_met r u ≡ branch_noting form n m deep up s p met t
   unfolding branch_noting next
-  branch_whole q r u is e = rw (passed_to (body_at format form n s p) q (sym read ∙ is)).1 e
+  branch_whole q r u is e = rw (passed_to (body_at format form n s p) q (sym read ∙ ap over is)).1 e
 
 -- BRANCHINGS.
 pub branching_none : (form : Form) (n m deep : ℕ) (s : List ℕ) (start i : ℕ) (t u : List ℕ) → deep ≡ 0
-    → outcome_met (Fault 19 start) u ≡ noting_met (inside_noted form i t) (branching_at format form n m s deep start (i + 1))
+    → (why : Fault) → why ≡ record { refusal = NestedTooDeep; place = start } → outcome_met (Err why) u ≡ noting_met (inside_noted form i t) (branching_at format form n m s deep start (i + 1))
 unfolding branching_at noting_met next outcome_met
-branching_none form n m deep s start i t u e = rw e
+branching_none form n m deep s start i t u e why is = rw (e, is)
 
 module _ (form : Form) (n m deep : ℕ) (s : List ℕ) (start i : ℕ) (t : List ℕ) where
   abbrev pub branching_whole : Got (Met (List ℕ))
@@ -49,11 +48,11 @@ module _ (form : Form) (n m deep : ℕ) (s : List ℕ) (start i : ℕ) (t : List
   branching_rest left p met u =
       noting_met (branches_noted form (around_from + i) met p u) (branches_at format form n m s (sequence_at format form n m s (branching_at format form n m s (deep - 1))) left p met)
 
-module _ (form : Form) (n m : ℕ) (s : List ℕ) (start i : ℕ) (t : List ℕ) (count : Read) (read : count ≡ number_read (count_at 1 8 s (start + 1))) where
-  pub branching_fault : (deep k q : ℕ) (u : List ℕ) → (deep ≡ 0 → ⊥) → count ≡ Fault k q → outcome_met (Fault k q) u ≡ noting_met (inside_noted form i t) (branching_at format form n m s deep start (i + 1))
+module _ (form : Form) (n m : ℕ) (s : List ℕ) (start i : ℕ) (t : List ℕ) (count : Numbered) (read : numbered count ≡ (count_at 1 8 s (start + 1))) where
+  pub branching_fault : (deep : ℕ) (why : Fault) (u : List ℕ) → (deep ≡ 0 → ⊥) → count ≡ Err why → outcome_met (Err why) u ≡ noting_met (inside_noted form i t) (branching_at format form n m s deep start (i + 1))
   unfolding branching_at noting_met next outcome_met
-  branching_fault zero k q u h is = absurd (h refl)
-  branching_fault (suc deep) k q u h is = rw (read_fault (count_at 1 8 s (start + 1)) count k q read is)
+  branching_fault zero why u h is = absurd (h refl)
+  branching_fault (suc deep) why u h is = rw (was_stopped (count_at 1 8 s (start + 1)) count why read is)
 
   branching_opened : (deep c q : ℕ) → count_at 1 8 s (start + 1) ≡ got c q → start + 2 ≡ q
       → branching_whole form n m (suc deep) s start i t ≡ branching_rest form n m (suc deep) s start i t c q (i + 1) t
@@ -62,21 +61,25 @@ module _ (form : Form) (n m : ℕ) (s : List ℕ) (start i : ℕ) (t : List ℕ)
       rw (given, sub-one) (noting_built (inside_noted form i t) (branching start) (branches_at format form n m s (sequence_at format form n m s (branching_at format form n m s deep)) c q (i + 1))
       ∙ ap (λ (r : ℕ). noting_met (branches_noted form (around_from + i) (i + 1) r t) (branches_at format form n m s (sequence_at format form n m s (branching_at format form n m s deep)) c q (i + 1))) place)
 
-  pub branching_starts : (deep c q : ℕ) → (deep ≡ 0 → ⊥) → i < format.items → count ≡ Value c q
+  pub branching_starts : (deep c q : ℕ) → (deep ≡ 0 → ⊥) → i < format.items → count ≡ Ok (c, q)
       → Going s (branching_whole form n m deep s start i t) (branching_rest form n m deep s start i t c q (i + 1) t) q (i + 1)
   branching_starts zero c q h k is = absurd (h refl)
   branching_starts (suc deep) c q h k is =
-      let given = read_value (count_at 1 8 s (start + 1)) count c q read is in
+      let given = was_read (count_at 1 8 s (start + 1)) count c q read is in
       let one = (count_through s 1 8 (start + 1)).holds c q given in
       let a = one.after in
       record { same = branching_opened deep c q given (omega arith); inside = one.inside; most = omega arith }
 
+  pub branching_begins : (deep c q : ℕ) → (deep ≡ 0 → ⊥) → i < format.items → count ≡ Ok (c, q)
+      → Going s (branching_whole form n m deep s start i t) (branching_rest form n m deep s start i t (c - 0) q (i + 1) t) q (i + 1)
+  branching_begins deep c q h k is = let same : c - 0 ≡ c = omega arith in rw same (branching_starts deep c q h k is)
+
 -- What a branch that was read, or not, says of its parts.
-branch_stops : (b : Got (List ℕ)) (seq : ℕ → Got (Met (Sequence ℕ))) (note : ℕ → Sequence ℕ → List ℕ) (build : List ℕ → Met (Sequence ℕ) → ℕ → Got (Met (Branches ℕ))) (k e : ℕ)
-    → next b (λ c q. noting_met (note q) (seq q)) ≡ fault k e → next b (λ c q. next (seq q) (build c)) ≡ fault k e
+branch_stops : (b : Got (List ℕ)) (seq : ℕ → Got (Met (Sequence ℕ))) (note : ℕ → Sequence ℕ → List ℕ) (build : List ℕ → Met (Sequence ℕ) → ℕ → Got (Met (Branches ℕ))) (why : Fault)
+    → next b (λ c q. noting_met (note q) (seq q)) ≡ stopped why → next b (λ c q. next (seq q) (build c)) ≡ stopped why
 unfolding next
-branch_stops (got c q) seq note build k e is = rw (fault_met (note q) (seq q) k e is)
-branch_stops (fault j q) seq note build k e is = fault_turned is
+branch_stops (got c q) seq note build why is = rw (fault_met (note q) (seq q) why is)
+branch_stops (fault j q) seq note build why is = fault_turned is
 
 branch_goes : (b : Got (List ℕ)) (seq : ℕ → Got (Met (Sequence ℕ))) (note : ℕ → Sequence ℕ → List ℕ) (u : List ℕ) (more e : ℕ)
     → next b (λ c q. noting_met (note q) (seq q)) ≡ got (with_items u more) e
@@ -84,7 +87,7 @@ branch_goes : (b : Got (List ℕ)) (seq : ℕ → Got (Met (Sequence ℕ))) (not
 unfolding outcome_met
 branch_goes b seq note u more e is =
     let w = next_got b _ is in
-    let v = met_value (note w.1) (seq w.1) (Value more e) u more e (sym w.3) refl in
+    let v = met_value (note w.1) (seq w.1) (Ok (more, e)) u more e (sym w.3) refl in
     (w.0, w.1, v.0, w.2, v.1, v.2)
 
 -- The loop over the branches, where `deep` branchings may stand in each.
@@ -95,18 +98,18 @@ module _ (form : Form) (n m deep up : ℕ) (s : List ℕ) (whole : Got (Met (Lis
   abbrev branches_left : (p met : ℕ) → List ℕ → ℕ → Got (Met (List ℕ))
   branches_left p met t left = noting_met (branches_noted form up met p t) (branches_at format form n m s one_sequence left p met)
 
-  pub branches_done : (p met : ℕ) (t : List ℕ) (left : ℕ) → Going s whole (branches_left p met t left) p met → left ≤ 0 → outcome_met (Value met p) t ≡ whole
+  pub branches_done : (p met : ℕ) (t : List ℕ) (left : ℕ) → Going s whole (branches_left p met t left) p met → left ≤ 0 → outcome_met (Ok (met, p)) t ≡ whole
   unfolding branches_at noting_met next outcome_met branches_noted
   branches_done p met t zero w h = sym w.same
   branches_done p met t (suc left) w h = absurd (omega arith)
 
-  pub branches_fault : (p met : ℕ) (t : List ℕ) (left k e : ℕ) (r : Read) (u v : List ℕ) → Going s whole (branches_left p met t left) p met → 0 < left
-      → outcome_met r u ≡ branch_noting form n m deep up s p met t → r ≡ Fault k e → outcome_met (Fault k e) v ≡ whole
+  pub branches_fault : (p met : ℕ) (t : List ℕ) (left : ℕ) (why : Fault) (r : Numbered) (u v : List ℕ) → Going s whole (branches_left p met t left) p met → 0 < left
+      → outcome_met r u ≡ branch_noting form n m deep up s p met t → r ≡ Err why → outcome_met (Err why) v ≡ whole
   unfolding branches_at branch_noting noting_met next outcome_met
-  branches_fault p met t zero k e r u v w h is f = absurd (omega arith)
-  branches_fault p met t (suc left) k e r u v w h is f =
-      let fails : branch_noting form n m deep up s p met t ≡ fault k e = rw f at (sym is) in
-      sym (w.same ∙ ap (noting_met (branches_noted form up met p t)) (branch_stops (body_at format form n s p) (λ q. one_sequence q met) (λ q. sequence_noted form up met q t) _ k e fails))
+  branches_fault p met t zero why r u v w h is f = absurd (omega arith)
+  branches_fault p met t (suc left) why r u v w h is f =
+      let fails : branch_noting form n m deep up s p met t ≡ stopped why = rw f at (sym is) in
+      sym (w.same ∙ ap (noting_met (branches_noted form up met p t)) (branch_stops (body_at format form n s p) (λ q. one_sequence q met) (λ q. sequence_noted form up met q t) _ why fails))
 
   -- One branch, and the rest from where it ends.
   branches_step : (p met : ℕ) (t : List ℕ) (left more e : ℕ) (u c : List ℕ) (q : ℕ) (x : Sequence ℕ) → met ≤ format.items
@@ -123,8 +126,8 @@ module _ (form : Form) (n m deep up : ℕ) (s : List ℕ) (whole : Got (Met (Lis
       rw (condition, sequence) (noting_built (branches_noted form up met p t) (branch c x) (branches_at format form n m s one_sequence left e more)
       ∙ rw (counted, end, middle, noted) refl)
 
-  pub branches_next : (p met : ℕ) (t : List ℕ) (left more e : ℕ) (r : Read) (u : List ℕ) → Going s whole (branches_left p met t left) p met → 0 < left
-      → outcome_met r u ≡ branch_noting form n m deep up s p met t → r ≡ Value more e → Going s whole (branches_left e more u (left - 1)) e more
+  pub branches_next : (p met : ℕ) (t : List ℕ) (left more e : ℕ) (r : Numbered) (u : List ℕ) → Going s whole (branches_left p met t left) p met → 0 < left
+      → outcome_met r u ≡ branch_noting form n m deep up s p met t → r ≡ Ok (more, e) → Going s whole (branches_left e more u (left - 1)) e more
   unfolding branch_noting outcome_met
   branches_next p met t zero more e r u w h is f = absurd (omega arith)
   branches_next p met t (suc left) more e r u w h is f =
@@ -132,3 +135,16 @@ module _ (form : Form) (n m deep up : ℕ) (s : List ℕ) (whole : Got (Met (Lis
       let b = branch_goes (body_at format form n s p) (λ q. one_sequence q met) (λ q. sequence_noted form up met q t) u more e goes in
       let k = (sequence_read form n m s deep b.1 met w.most).holds (with_items b.2 more) e b.4 in
       record { same = w.same ∙ rw sub-one (branches_step p met t left more e u b.0 b.1 b.2 w.most b.3 b.4 b.5); inside = k.through.inside; most = k.most }
+
+  -- The same by the number of the branch.
+  pub branches_over : (p met : ℕ) (t : List ℕ) (count i : ℕ) → Going s whole (branches_left p met t (count - i)) p met → count ≤ i → outcome_met (Ok (met, p)) t ≡ whole
+  branches_over p met t count i w h = branches_done p met t (count - i) w (omega arith)
+
+  pub branches_stopped : (p met : ℕ) (t : List ℕ) (count i : ℕ) (why : Fault) (r : Numbered) (u v : List ℕ) → Going s whole (branches_left p met t (count - i)) p met → i < count
+      → outcome_met r u ≡ branch_noting form n m deep up s p met t → r ≡ Err why → outcome_met (Err why) v ≡ whole
+  branches_stopped p met t count i why r u v w h is f = branches_fault p met t (count - i) why r u v w (omega arith) is f
+
+  pub branches_onward : (p met : ℕ) (t : List ℕ) (count i more e : ℕ) (r : Numbered) (u : List ℕ) → Going s whole (branches_left p met t (count - i)) p met → i < count
+      → outcome_met r u ≡ branch_noting form n m deep up s p met t → r ≡ Ok (more, e) → Going s whole (branches_left e more u (count - (i + 1))) e more
+  branches_onward p met t count i more e r u w h is f =
+      subst (λ (left : ℕ). Going s whole (branches_left e more u left) e more) {x = count - i - 1} {y = count - (i + 1)} (omega arith) (branches_next p met t (count - i) more e r u w (omega arith) is f)

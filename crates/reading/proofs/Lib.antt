@@ -1,5 +1,6 @@
 pub mod NotesLaws
 pub mod SectionLaws
+pub mod ListedLaws
 pub mod MarkLaws
 pub mod ValueSizes
 pub mod PlanSizes

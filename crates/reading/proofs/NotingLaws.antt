@@ -6,12 +6,13 @@ use mathlib.Core.List.{List}
 use lib.ListN.{length, set}
 use lib.Dec.{eqb}
 use borrow.Author.Tests.{eq-eqb, ne_eqb, lt-ltb, le-ltb}
+use Rattle.std.specs.Prelude.{Ok, Err}
+use Rattle.parsing.specs.Read.{Numbered, stopped}
+use Rattle.parsing.specs.declared.faults.Fault.{Fault}
 use Rattle.meaning.specs.Limits.{format}
 use Rattle.meaning.specs.Reading.{Got, got, fault, next, Met}
 use Rattle.meaning.proofs.TestLaws.{by-test, pick_true, pick_false}
 use Rattle.meaning.proofs.SettledLaws.{fault≢got, got_same}
-use Rattle.parsing.specs.declared.bytes.Read.{Read}
-use Rattle.parsing.specs.declared.bytes.Read.TheVariants.{Value, Fault}
 use Rattle.reading.proofs.SectionLaws.{got_place, fault_first}
 use Rattle.reading.specs.Planned.{number_after, branch_noted, noting_met, outcome_met}
 use Rattle.reading.specs.Noted.{item_next, branch_place, branch_item}
@@ -50,7 +51,7 @@ module _ {A : Type 0} where
   with_items x k = record { value = x; items = k }
 
 module _ {A : Type 0} (note : A → List ℕ) where
-  pub met_value : (g : Got (Met A)) (r : Read) (t : List ℕ) (more e : ℕ) → outcome_met r t ≡ noting_met note g → r ≡ Value more e
+  pub met_value : (g : Got (Met A)) (r : Numbered) (t : List ℕ) (more e : ℕ) → outcome_met r t ≡ noting_met note g → r ≡ Ok (more, e)
       → (x : A) × (g ≡ got (with_items x more) e) × (t ≡ note x)
   unfolding outcome_met noting_met next
   met_value (got x q) r t more e is v =
@@ -62,13 +63,13 @@ module _ {A : Type 0} (note : A → List ℕ) where
       let same : got (with_items t more) e ≡ fault n i = rw v at is in
       absurd (fault≢got (sym same))
 
-  pub met_fault : (g : Got (Met A)) (r : Read) (t : List ℕ) (k e : ℕ) → outcome_met r t ≡ noting_met note g → r ≡ Fault k e → noting_met note g ≡ fault k e
+  pub met_fault : (g : Got (Met A)) (r : Numbered) (t : List ℕ) (why : Fault) → outcome_met r t ≡ noting_met note g → r ≡ Err why → noting_met note g ≡ stopped why
   unfolding outcome_met
-  met_fault g r t k e is v = rw v at (sym is)
+  met_fault g r t why is v = rw v at (sym is)
 
-  pub fault_met : (g : Got (Met A)) (k e : ℕ) → noting_met note g ≡ fault k e → g ≡ fault k e
+  pub fault_met : (g : Got (Met A)) (why : Fault) → noting_met note g ≡ stopped why → g ≡ stopped why
   unfolding noting_met
-  fault_met g k e is = fault_first g (λ x. with_items (note x.value) x.items) k e is
+  fault_met g why is = fault_first g (λ x. with_items (note x.value) x.items) _ _ is
 
 -- NOTING goes through a reading.
 module _ {A : Type 0} where

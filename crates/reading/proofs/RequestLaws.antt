@@ -4,6 +4,8 @@ use native.Mathlib.Omega.{arith}
 use mathlib.Core.Path.{◌≡◌, refl, sym, ◌∙◌, ap, subst}
 use mathlib.Core.List.{List, [], ◌∷◌}
 use lib.ListN.{length, get_or, set}
+use Rattle.std.specs.Prelude.{Ok, Err}
+use Rattle.parsing.specs.declared.faults.Fault.{Fault}
 use Rattle.meaning.specs.Limits.{format}
 use Rattle.meaning.specs.Requests.{Table, Sequence, Request}
 use Rattle.meaning.specs.declared.Form.{Form}
@@ -11,20 +13,16 @@ use Rattle.meaning.specs.declared.Form.TheVariants.{Flags, Valued}
 use Rattle.meaning.specs.Reading.{Got, got, fault, next, fluents, plan_at, count_at, list_at, literals_at, section_at, effect_at, executability_at, knowledge_at, table_at, value_counts_at, past_values, request_at, placed, placed_twos, placed_as, Met}
 use Rattle.meaning.proofs.SettledLaws.{next_got}
 use Rattle.meaning.proofs.RangeLaws.{count_within}
-use Rattle.parsing.specs.declared.bytes.Read.{Read}
-use Rattle.parsing.specs.declared.bytes.Read.TheVariants.{Value, Fault}
 use Rattle.parsing.specs.declared.lists.Kind.TheVariants.{Fluents}
-use Rattle.parsing.specs.declared.lists.Passed.{Passed}
-use Rattle.parsing.specs.declared.lists.Passed.TheVariants.{To, Fault as Stop}
 use Rattle.parsing.specs.Masks.{Counted as Within-counts}
-use Rattle.parsing.specs.Read.{number_read, passed, kind_of}
+use Rattle.parsing.specs.Read.{Numbered, Passed, numbered, over, passed, kind_of, values_first}
 use Rattle.reading.specs.Listed.{span}
-use Rattle.reading.specs.Noted.{effects, executability, knowledge, line_at, table_noted, three_sections, facts_first, actions_first, noting, outcome}
+use Rattle.reading.specs.Noted.{line_at, table_noted, three_sections, facts_first, actions_first, noting, outcome}
 use Rattle.reading.specs.Noted.{plan_slot, items_slot, goals_slot, guards_slot}
 use Rattle.reading.specs.Planned.{items_of, bytes_of, plan_noted, noting_met, outcome_met}
-use Rattle.reading.specs.Requested.{Starts, values_first, goals_first, plan_first, places_noted, goals_place, plan_place, tail_with, request_with, tail_noted, request_noted}
-use Rattle.parsing.proofs.ByteLaws.{read_value, read_fault}
-use Rattle.parsing.proofs.ListLaws.{passed_same, passed_to, passed_stop}
+use Rattle.reading.specs.Requested.{Starts, goals_first, plan_first, places_noted, goals_place, plan_place, tail_with, request_with, tail_noted, request_noted}
+use Rattle.parsing.proofs.ByteLaws.{was_read, was_stopped}
+use Rattle.parsing.proofs.ListLaws.{passed_to, passed_stop}
 use Rattle.reading.proofs.NotingLaws.{with_items, met_value, met_fault, fault_met}
 use Rattle.reading.proofs.SectionLaws.{count_got}
 use Rattle.reading.proofs.ValueSizes.{few_counted, few_read}
@@ -44,14 +42,14 @@ module _ {A B : Type 0} where
   next_same (fault n p) e = refl
 
 -- SECTIONS 2 TO 5.
-module _ (form : Form) (n m : ℕ) (s : List ℕ) (p : ℕ) (t : List ℕ) (facts : Passed) (read : facts ≡ passed (literals_at form n format.listed s p)) where
-  pub facts_fault : (k q : ℕ) (v : List ℕ) → facts ≡ Stop k q → outcome (Stop k q) v ≡ facts_first form n m s p t
+module _ (form : Form) (n m : ℕ) (s : List ℕ) (p : ℕ) (t : List ℕ) (facts : Passed) (read : over facts ≡ passed (literals_at form n format.listed s p)) where
+  pub facts_fault : (why : Fault) (v : List ℕ) → facts ≡ Err why → outcome (Err why) v ≡ facts_first form n m s p t
   unfolding facts_first next outcome kind_of
-  facts_fault k q v is = rw (passed_stop (literals_at form n format.listed s p) k q (sym read ∙ is))
+  facts_fault why v is = rw (passed_stop (literals_at form n format.listed s p) why (sym read ∙ ap over is))
 
-  pub facts_passed : (q : ℕ) (r : Passed) (w : List ℕ) → facts ≡ To q → outcome r w ≡ three_sections form n m s q t → outcome r w ≡ facts_first form n m s p t
+  pub facts_passed : (q : ℕ) (r : Passed) (w : List ℕ) → facts ≡ Ok q → outcome r w ≡ three_sections form n m s q t → outcome r w ≡ facts_first form n m s p t
   unfolding facts_first next kind_of
-  facts_passed q r w is e = rw (passed_to (literals_at form n format.listed s p) q (sym read ∙ is)).1 e
+  facts_passed q r w is e = rw (passed_to (literals_at form n format.listed s p) q (sym read ∙ ap over is)).1 e
 
 -- Noting at the end, or as each part is read.
 after_fluents : (form : Form) (n : ℕ) (s : List ℕ) (p : ℕ) (t : List ℕ) → actions_first form n s p t ≡ next (
@@ -73,18 +71,18 @@ after_fluents form n s p t =
     ∙ sym (next_next (literals_at form n format.listed s q) _ _))
     ∙ sym (next_next (count_at 1 format.actions s p) _ _)
 
-pub count_most : (most : ℕ) (s : List ℕ) (p : ℕ) (count : Read) → count ≡ number_read (count_at 1 most s p) → (n q : ℕ) → count ≡ Value n q → n ≤ most
-count_most most s p count read n q is = count_within 1 most s p n q (read_value (count_at 1 most s p) count n q read is)
+pub count_most : (most : ℕ) (s : List ℕ) (p : ℕ) (count : Numbered) → numbered count ≡ (count_at 1 most s p) → (n q : ℕ) → count ≡ Ok (n, q) → n ≤ most
+count_most most s p count read n q is = count_within 1 most s p n q (was_read (count_at 1 most s p) count n q read is)
 
 -- The actions' count.
-module _ (form : Form) (n : ℕ) (s : List ℕ) (p : ℕ) (t : List ℕ) (count : Read) (read : count ≡ number_read (count_at 1 format.actions s p)) where
-  pub actions_fault : (k q : ℕ) (v : List ℕ) → count ≡ Fault k q → outcome (Stop k q) v ≡ actions_first form n s p t
+module _ (form : Form) (n : ℕ) (s : List ℕ) (p : ℕ) (t : List ℕ) (count : Numbered) (read : numbered count ≡ (count_at 1 format.actions s p)) where
+  pub actions_fault : (why : Fault) (v : List ℕ) → count ≡ Err why → outcome (Err why) v ≡ actions_first form n s p t
   unfolding actions_first next outcome
-  actions_fault k q v is = rw (read_fault (count_at 1 format.actions s p) count k q read is)
+  actions_fault why v is = rw (was_stopped (count_at 1 format.actions s p) count why read is)
 
-  pub actions_there : (m q : ℕ) (r : Passed) (w : List ℕ) → count ≡ Value m q → outcome r w ≡ facts_first form n m s q t → outcome r w ≡ actions_first form n s p t
+  pub actions_there : (m q : ℕ) (r : Passed) (w : List ℕ) → count ≡ Ok (m, q) → outcome r w ≡ facts_first form n m s q t → outcome r w ≡ actions_first form n s p t
   unfolding actions_first next
-  actions_there m q r w is e = rw (read_value (count_at 1 format.actions s p) count m q read is) e
+  actions_there m q r w is e = rw (was_read (count_at 1 format.actions s p) count m q read is) e
 
 -- What stands between the two counts.
 past_noted : {A B : Type 0} (form : Form) (n : ℕ) (s : List ℕ) (q : ℕ) (k : ℕ → Got A) (h : A → ℕ → Got B) → next (past_values form n s q k) h ≡ next (values_first form n s q) (λ _ r. next (k r) h)
@@ -92,40 +90,32 @@ unfolding values_first next
 past_noted Flags n s q k h = refl
 past_noted Valued n s q k h = next_next (value_counts_at n s q) (λ _ r. k r) h ∙ sym (next_next (value_counts_at n s q) (λ _ r. got tt r) (λ _ r. next (k r) h))
 
-pub no_values : (form : Form) (n : ℕ) (s : List ℕ) (p : ℕ) → form ≡ Flags → To p ≡ passed (values_first form n s p)
-unfolding values_first passed
-no_values form n s p is = rw is
-
-pub some_values : (form : Form) (n : ℕ) (s : List ℕ) (p : ℕ) (r : Passed) → form ≡ Valued → r ≡ passed (value_counts_at n s p) → r ≡ passed (values_first form n s p)
-unfolding values_first
-some_values form n s p r is e = rw is (e ∙ sym (passed_same (value_counts_at n s p) (λ _. tt)))
-
 -- The fluents' count.
-module _ (form : Form) (s : List ℕ) (p : ℕ) (t : List ℕ) (count : Read) (read : count ≡ number_read (count_at 1 format.fluents s p)) where
-  pub fluents_fault : (k q : ℕ) (v : List ℕ) → count ≡ Fault k q → outcome (Stop k q) v ≡ noting table_noted (table_at format form s p) t
+module _ (form : Form) (s : List ℕ) (p : ℕ) (t : List ℕ) (count : Numbered) (read : numbered count ≡ (count_at 1 format.fluents s p)) where
+  pub fluents_fault : (why : Fault) (v : List ℕ) → count ≡ Err why → outcome (Err why) v ≡ noting table_noted (table_at format form s p) t
   unfolding table_at noting next outcome
-  fluents_fault k q v is = rw (read_fault (count_at 1 format.fluents s p) count k q read is)
+  fluents_fault why v is = rw (was_stopped (count_at 1 format.fluents s p) count why read is)
 
-  module _ (n q : ℕ) (is : count ≡ Value n q) (values : Passed) (passes : values ≡ passed (values_first form n s q)) where
+  module _ (n q : ℕ) (is : count ≡ Ok (n, q)) (values : Passed) (passes : over values ≡ passed (values_first form n s q)) where
     table_rest : noting table_noted (table_at format form s p) t ≡ next (values_first form n s q) (λ _ r. actions_first form n s r t)
     unfolding table_at noting next
-    table_rest = rw (read_value (count_at 1 format.fluents s p) count n q read is) (past_noted form n s q _ (λ x e. got (table_noted x t) e) ∙ next_same (values_first form n s q) (λ _ r. sym (after_fluents form n s r t)))
+    table_rest = rw (was_read (count_at 1 format.fluents s p) count n q read is) (past_noted form n s q _ (λ x e. got (table_noted x t) e) ∙ next_same (values_first form n s q) (λ _ r. sym (after_fluents form n s r t)))
 
-    pub values_fault : (k r : ℕ) (v : List ℕ) → values ≡ Stop k r → outcome (Stop k r) v ≡ noting table_noted (table_at format form s p) t
+    pub values_fault : (why : Fault) (v : List ℕ) → values ≡ Err why → outcome (Err why) v ≡ noting table_noted (table_at format form s p) t
     unfolding next outcome
-    values_fault k r v stops = sym (table_rest ∙ ap (λ (g : Got (Unit {0})). next g (λ _ i. actions_first form n s i t)) (passed_stop (values_first form n s q) k r (sym passes ∙ stops)))
+    values_fault why v stops = sym (table_rest ∙ ap (λ (g : Got (Unit {0})). next g (λ _ i. actions_first form n s i t)) (passed_stop (values_first form n s q) why (sym passes ∙ ap over stops)))
 
-    pub fluents_there : (v : ℕ) (r : Passed) (w : List ℕ) → values ≡ To v → outcome r w ≡ actions_first form n s v t → outcome r w ≡ noting table_noted (table_at format form s p) t
+    pub fluents_there : (v : ℕ) (r : Passed) (w : List ℕ) → values ≡ Ok v → outcome r w ≡ actions_first form n s v t → outcome r w ≡ noting table_noted (table_at format form s p) t
     unfolding next
-    fluents_there v r w goes e = e ∙ sym (table_rest ∙ ap (λ (g : Got (Unit {0})). next g (λ _ i. actions_first form n s i t)) (passed_to (values_first form n s q) v (sym passes ∙ goes)).1)
+    fluents_there v r w goes e = e ∙ sym (table_rest ∙ ap (λ (g : Got (Unit {0})). next g (λ _ i. actions_first form n s i t)) (passed_to (values_first form n s q) v (sym passes ∙ ap over goes)).1)
 
     -- Behind the numbers of values no fluent has too many.
-    pub values_counted : (v : ℕ) → Starts form p → values ≡ To v → Within-counts form s
+    pub values_counted : (v : ℕ) → Starts form p → values ≡ Ok v → Within-counts form s
     unfolding Within-counts Starts
     values_counted v starts goes valued =
         let at_start = starts valued in
-        let there = count_got 1 format.fluents s p n q (read_value (count_at 1 format.fluents s p) count n q read is) in
-        let got-all = (passed_to (values_first form n s q) v (sym passes ∙ goes)).1 in
+        let there = count_got 1 format.fluents s p n q (was_read (count_at 1 format.fluents s p) count n q read is) in
+        let got-all = (passed_to (values_first form n s q) v (sym passes ∙ ap over goes)).1 in
         few_read n s (ap (λ (i : ℕ). get_or s i 0) (sym at_start) ∙ there.1) q (sym there.2 ∙ ap (λ (i : ℕ). i + 1) at_start) v
         (subst (λ (f : Form). values_first f n s q ≡ got tt v) valued got-all)
 
@@ -140,10 +130,19 @@ table_counted form s p x e starts is valued =
     few_counted w.0 s (ap (λ (i : ℕ). get_or s i 0) (sym at_start) ∙ there.1) w.1 (sym there.2 ∙ ap (λ (i : ℕ). i + 1) at_start) v.0 v.1 v.2
 
 -- SECTIONS 7 AND 8.
-pub passed_outcome : {A : Type 0} (g : Got A) (u : List ℕ) → outcome (passed g) u ≡ next g (λ _ e. got u e)
-unfolding outcome passed next
-passed_outcome (got x p) u = refl
-passed_outcome (fault n p) u = refl
+-- What is left of the notes, where nothing but the place counts.
+over_outcome : (r : Passed) (u : List ℕ) → outcome r u ≡ next (over r) (λ _ e. got u e)
+unfolding outcome next
+over_outcome (Ok p) u = refl
+over_outcome (Err f) u = refl
+
+passed_next : {A : Type 0} (g : Got A) (u : List ℕ) → next (passed g) (λ _ e. got u e) ≡ next g (λ _ e. got u e)
+unfolding passed next
+passed_next (got x p) u = refl
+passed_next (fault n p) u = refl
+
+pub passed_outcome : {A : Type 0} (g : Got A) (r : Passed) (u : List ℕ) → over r ≡ passed g → outcome r u ≡ next g (λ _ e. got u e)
+passed_outcome g r u e = over_outcome r u ∙ ap (λ (h : Got (Unit {0})). next h (λ _ i. got u i)) e ∙ passed_next g u
 
 pub put_all : (plan items goals : ℕ) (t u v w z : List ℕ) → u ≡ set t plan_slot plan → v ≡ set u items_slot items → w ≡ set v goals_slot goals → z ≡ set w guards_slot 0
     → z ≡ places_noted plan items goals 0 t
@@ -151,26 +150,26 @@ unfolding places_noted
 put_all plan items goals t u v w z eu ev ew ez =
     ez ∙ ap (λ (x : List ℕ). set x guards_slot 0) (ew ∙ ap (λ (x : List ℕ). set x goals_slot goals) (ev ∙ ap (λ (x : List ℕ). set x items_slot items) eu))
 
-module _ (form : Form) (n : ℕ) (s : List ℕ) (plan items p : ℕ) (t : List ℕ) (goals : Passed) (read : goals ≡ passed (literals_at form n format.listed s p)) where
-  pub goals_fault : (k q : ℕ) (v : List ℕ) → goals ≡ Stop k q → outcome (Stop k q) v ≡ goals_first form n s plan items p t
+module _ (form : Form) (n : ℕ) (s : List ℕ) (plan items p : ℕ) (t : List ℕ) (goals : Passed) (read : over goals ≡ passed (literals_at form n format.listed s p)) where
+  pub goals_fault : (why : Fault) (v : List ℕ) → goals ≡ Err why → outcome (Err why) v ≡ goals_first form n s plan items p t
   unfolding goals_first next outcome kind_of
-  goals_fault k q v is = rw (passed_stop (literals_at form n format.listed s p) k q (sym read ∙ is))
+  goals_fault why v is = rw (passed_stop (literals_at form n format.listed s p) why (sym read ∙ ap over is))
 
-  pub goals_passed : (q : ℕ) (whether : Passed) (z : List ℕ) → goals ≡ To q → z ≡ places_noted plan items p 0 t
-      → whether ≡ passed (list_at (kind_of Fluents) n format.listed s q) → outcome whether z ≡ goals_first form n s plan items p t
+  pub goals_passed : (q : ℕ) (whether : Passed) (z : List ℕ) → goals ≡ Ok q → z ≡ places_noted plan items p 0 t
+      → over whether ≡ passed (list_at (kind_of Fluents) n format.listed s q) → outcome whether z ≡ goals_first form n s plan items p t
   unfolding goals_first next kind_of
   goals_passed q whether z is noted last =
-      rw (passed_to (literals_at form n format.listed s p) q (sym read ∙ is)).1
-      (ap (λ (x : Passed). outcome x z) last ∙ passed_outcome (list_at fluents n format.listed s q) z ∙ ap (λ (x : List ℕ). next (list_at fluents n format.listed s q) (λ _ e. got x e)) noted)
+      rw (passed_to (literals_at form n format.listed s p) q (sym read ∙ ap over is)).1
+      (passed_outcome (list_at fluents n format.listed s q) whether z last ∙ ap (λ (x : List ℕ). next (list_at fluents n format.listed s q) (λ _ e. got x e)) noted)
 
 -- SECTIONS 6 TO 8.
-module _ (form : Form) (n m : ℕ) (s : List ℕ) (p : ℕ) (t u : List ℕ) (plan : Read) (read : outcome_met plan u ≡ noting_met (plan_noted form p t) (plan_at format form n m s p)) where
-  pub plan_fault : (k q : ℕ) (v : List ℕ) → plan ≡ Fault k q → outcome (Stop k q) v ≡ plan_first form n m s p t
+module _ (form : Form) (n m : ℕ) (s : List ℕ) (p : ℕ) (t u : List ℕ) (plan : Numbered) (read : outcome_met plan u ≡ noting_met (plan_noted form p t) (plan_at format form n m s p)) where
+  pub plan_fault : (why : Fault) (v : List ℕ) → plan ≡ Err why → outcome (Err why) v ≡ plan_first form n m s p t
   unfolding plan_first next outcome
-  plan_fault k q v is =
-      rw (fault_met (plan_noted form p t) (plan_at format form n m s p) k q (met_fault (plan_noted form p t) (plan_at format form n m s p) plan u k q read is))
+  plan_fault why v is =
+      rw (fault_met (plan_noted form p t) (plan_at format form n m s p) why (met_fault (plan_noted form p t) (plan_at format form n m s p) plan u why read is))
 
-  module _ (items q : ℕ) (is : plan ≡ Value items q) where
+  module _ (items q : ℕ) (is : plan ≡ Ok (items, q)) where
     plan_got : (x : Sequence ℕ) × (plan_at format form n m s p ≡ got (with_items x items) q) × (u ≡ plan_noted form p t x)
     plan_got = met_value (plan_noted form p t) (plan_at format form n m s p) plan u items q read is
 

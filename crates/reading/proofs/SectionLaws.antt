@@ -8,6 +8,9 @@ use lib.ListN.{length, get_or, set, replicate}
 use mir.Syntax.{w64}
 use mir.Val.{Fits}
 use borrow.Author.Tests.{leb-false}
+use Rattle.std.specs.Prelude.{Ok, Err}
+use Rattle.parsing.specs.declared.faults.Fault.{Fault}
+use Rattle.parsing.specs.declared.faults.Refusal.TheVariants.{EndsTooSoon}
 use Rattle.meaning.specs.Limits.{format}
 use Rattle.meaning.specs.Requests.{Effect, Executability, Knowledge}
 use Rattle.meaning.specs.declared.Form.{Form}
@@ -16,46 +19,9 @@ use Rattle.meaning.specs.Reading.{Got, got, fault, next, byte_at, count_at, belo
 use Rattle.meaning.proofs.SettledLaws.{got_same, next_got, fault≢got}
 use Rattle.meaning.proofs.RangeLaws.{not_refused, after_got, repeated_length}
 pub use Rattle.meaning.proofs.RangeLaws.{got_place, byte_got}
-use Rattle.parsing.specs.declared.bytes.Read.{Read}
-use Rattle.parsing.specs.declared.bytes.Read.TheVariants.{Value, Fault}
-use Rattle.parsing.specs.declared.lists.Passed.{Passed}
-use Rattle.parsing.specs.declared.lists.Passed.TheVariants.{To, Fault as Stop}
-use Rattle.reading.specs.declared.sections.Section as Code
-use Rattle.reading.specs.declared.sections.Section.TheVariants.{Effects, Executability as Runs, Knowledge as Senses}
-use Rattle.parsing.specs.Read.{effect_read, executability_read, knowledge_read}
+use Rattle.parsing.specs.Read.{Numbered, Passed, numbered, stopped, effect_read, executability_read, knowledge_read}
 use Rattle.parsing.proofs.ByteLaws.{byte_none, byte_is}
-use Rattle.reading.specs.Noted.{Section, effects, executability, knowledge, section_of, Line, line_at, line_read, line_noted, action_in, note_line, none_yet, lines_noted, count_slot, section_noted, three_sections, noting, outcome, effect_lines, run_lines, appended, pair_noted, slots, effects_slot, executability_slot, knowledge_slot}
-
--- ONE OF THE THREE SECTIONS.
-module _ (form : Form) (c : Code.Section) (n m : ℕ) (s : List ℕ) (p : ℕ) (r : Read) where
-  pub line_effect : c ≡ Effects → r ≡ effect_read (effect_at format form n m s p) → r ≡ line_read (section_of c) (line_at form (section_of c) n m s p)
-  unfolding line_read line_at section_of
-  line_effect e h = rw e h
-
-  pub line_executability : c ≡ Runs → r ≡ executability_read (executability_at format form n m s p) → r ≡ line_read (section_of c) (line_at form (section_of c) n m s p)
-  unfolding line_read line_at section_of
-  line_executability e h = rw e h
-
-  pub line_knowledge : c ≡ Senses → r ≡ knowledge_read (knowledge_at format n m s p) → r ≡ line_read (section_of c) (line_at form (section_of c) n m s p)
-  unfolding line_read line_at section_of
-  line_knowledge e h = rw e h
-
-module _ (c : Code.Section) (last k p a f : ℕ) (t u : List ℕ) where
-  pub noted_effect : c ≡ Effects → u ≡ appended effect_lines last k p a t → u ≡ line_noted (section_of c) last k p a f t
-  unfolding line_noted section_of
-  noted_effect e h = rw e h
-
-  pub noted_executability : c ≡ Runs → u ≡ appended run_lines last k p a t → u ≡ line_noted (section_of c) last k p a f t
-  unfolding line_noted section_of
-  noted_executability e h = rw e h
-
-  pub noted_knowledge : c ≡ Senses → u ≡ pair_noted a f t → u ≡ line_noted (section_of c) last k p a f t
-  unfolding line_noted section_of
-  noted_knowledge e h = rw e h
-
-pub knowledge_fits : (c : Code.Section) (f : ℕ) → c ≡ Senses → (section_of c ≡ knowledge → f < format.fluents) → f < format.fluents
-unfolding section_of
-knowledge_fits c f e h = h (rw e)
+use Rattle.reading.specs.Noted.{Section, effects, executability, knowledge, Line, line_at, line_read, line_noted, action_in, note_line, none_yet, lines_noted, count_slot, section_noted, three_sections, noting, outcome, slots}
 
 -- WHAT STANDS where something was read.
 pub number_got : (bound : ℕ) (s : List ℕ) (p x q : ℕ) → below_at bound s p ≡ got x q → (p < length s) × (get_or s p 0 ≡ x) × (p + 1 ≡ q) × (x < bound)
@@ -74,30 +40,25 @@ count_got least most s p c q e =
     let w = byte_got s p d i ed in
     (w.0, w.1 ∙ got_same u.1, w.2 ∙ got_place u.1)
 
--- What a reader answered of something with a number.
-number_of : Read → ℕ
-number_of r = elim r [ Value x p ↦ x | Fault n p ↦ 0 ]
+-- A fault before anything was built.
+module _ {A B : Type 0} where
+  pub fault_turned : {n i k q : ℕ} → ◌≡◌ {A = Got A} (fault n i) (fault k q) → ◌≡◌ {A = Got B} (fault n i) (fault k q)
+  fault_turned e = ap turned e
+    where
+      turned : Got A → Got B
+      turned (got x p) = fault 0 0
+      turned (fault j p) = fault j p
 
-place_of : Read → ℕ
-place_of r = elim r [ Value x p ↦ p | Fault n p ↦ p ]
+module _ {A B : Type 0} where
+  pub fault_first : (g : Got A) (build : A → B) (k q : ℕ) → next g (λ x p. got (build x) p) ≡ fault k q → g ≡ fault k q
+  unfolding next
+  fault_first (got x p) build k q e = absurd (fault≢got (sym e))
+  fault_first (fault i p) build k q e = fault_turned e
 
-fault_of : Read → ℕ
-fault_of r = elim r [ Value x p ↦ 0 | Fault n p ↦ n + 1 ]
-
-module _ {A : Type 0} (number : A → ℕ) (read : Got A → Read) (of-got : (x : A) (p : ℕ) → read (got x p) ≡ Value (number x) p) (of-fault : (n p : ℕ) → read (fault n p) ≡ Fault n p) where
-  got_by : (g : Got A) (a q : ℕ) → read g ≡ Value a q → (x : A) × (g ≡ got x q) × (number x ≡ a)
-  unfolding number_of place_of fault_of
-  got_by (got x p) a q e = let same = sym (of-got x p) ∙ e in (x, ap (got x) (ap place_of same), ap number_of same)
-  got_by (fault n p) a q e = let no : n + 1 ≡ 0 = ap fault_of (sym (of-fault n p) ∙ e) in absurd (omega arith)
-
-  fault_by : (g : Got A) (n q : ℕ) → read g ≡ Fault n q → g ≡ fault n q
-  unfolding place_of fault_of
-  fault_by (got x p) n q e = let no : 0 ≡ n + 1 = ap fault_of (sym (of-got x p) ∙ e) in absurd (omega arith)
-  fault_by (fault i p) n q e =
-      let same = sym (of-fault i p) ∙ e in
-      let number : i + 1 ≡ n + 1 = ap fault_of same in
-      let is : i ≡ n = omega arith in
-      rw (is, ap place_of same)
+-- What was read of something with a number.
+module _ {A : Type 0} (number : A → ℕ) where
+  got_by : (g : Got A) (a q : ℕ) → next g (λ x p. got (number x) p) ≡ got a q → (x : A) × (g ≡ got x q) × (number x ≡ a)
+  got_by g a q e = let w = next_got g _ e in (w.0, w.2 ∙ ap (got w.0) (got_place w.3), got_same w.3)
 
 -- A line of action a at place p, as what is noted of it.
 record Stands (c : Section) (n m : ℕ) (s : List ℕ) (p a : ℕ) (l : Line c) : Type 0 where
@@ -182,23 +143,23 @@ module _ (form : Form) (n m : ℕ) (s : List ℕ) where
         notes = λ last k t. rw (sym (ap (λ (y : Knowledge). y.fluent) is), same, senses);
       }
 
-  stands : (c : Section) (p a q : ℕ) → line_read c (line_at form c n m s p) ≡ Value a q → (l : Line c) × (line_at form c n m s p ≡ got l q) × Stands c n m s p a l
+  stands : (c : Section) (p a q : ℕ) → line_read c (line_at form c n m s p) ≡ got a q → (l : Line c) × (line_at form c n m s p ≡ got l q) × Stands c n m s p a l
   unfolding line_read line_at effect_read executability_read knowledge_read
   stands effects p a q e =
-      let w = got_by (λ (x : Effect). x.action) effect_read (λ x i. refl) (λ k i. refl) (effect_at format form n m s p) a q e in
+      let w = got_by (λ (x : Effect). x.action) (effect_at format form n m s p) a q e in
       (w.0, w.1, effect_stands p a q w.0 w.1 w.2)
   stands executability p a q e =
-      let w = got_by (λ (x : Executability). x.action) executability_read (λ x i. refl) (λ k i. refl) (executability_at format form n m s p) a q e in
+      let w = got_by (λ (x : Executability). x.action) (executability_at format form n m s p) a q e in
       (w.0, w.1, executability_stands p a q w.0 w.1 w.2)
   stands knowledge p a q e =
-      let w = got_by (λ (x : Knowledge). x.action) knowledge_read (λ x i. refl) (λ k i. refl) (knowledge_at format n m s p) a q e in
+      let w = got_by (λ (x : Knowledge). x.action) (knowledge_at format n m s p) a q e in
       (w.0, w.1, knowledge_stands p a q w.0 w.1 w.2)
 
-  stops : (c : Section) (p k q : ℕ) → line_read c (line_at form c n m s p) ≡ Fault k q → line_at form c n m s p ≡ fault k q
+  stops : (c : Section) (p : ℕ) {k q : ℕ} → line_read c (line_at form c n m s p) ≡ fault k q → line_at form c n m s p ≡ fault k q
   unfolding line_read line_at effect_read executability_read knowledge_read
-  stops effects p k q e = fault_by (λ (x : Effect). x.action) effect_read (λ x i. refl) (λ k i. refl) (effect_at format form n m s p) k q e
-  stops executability p k q e = fault_by (λ (x : Executability). x.action) executability_read (λ x i. refl) (λ k i. refl) (executability_at format form n m s p) k q e
-  stops knowledge p k q e = fault_by (λ (x : Knowledge). x.action) knowledge_read (λ x i. refl) (λ k i. refl) (knowledge_at format n m s p) k q e
+  stops effects p e = fault_first (effect_at format form n m s p) (λ (x : Effect). x.action) _ _ e
+  stops executability p e = fault_first (executability_at format form n m s p) (λ (x : Executability). x.action) _ _ e
+  stops knowledge p e = fault_first (knowledge_at format n m s p) (λ (x : Knowledge). x.action) _ _ e
 
 -- THE LOOP. What is noted of a given number of lines from place p on, the first of which has number k + 1.
 module _ (c : Section) where
@@ -210,29 +171,25 @@ module _ (c : Section) where
 
 module _ (form : Form) (c : Section) (n m : ℕ) (s : List ℕ) where
   -- What is noted of a given number of lines from place p on, when k are noted and `last` has the last of each action.
-  abbrev From : (left p k : ℕ) → (last t : List ℕ) → Got (List ℕ)
+  abbrev pub From : (left p k : ℕ) → (last t : List ℕ) → Got (List ℕ)
   From left p k last t = noting (lines_noted c k last) (repeated (line_at form c n m s) left p) t
 
-  pub lines_start : (count end p : ℕ) (t : List ℕ) → end ≡ count → From count p 0 none_yet t ≡ From (end - 0) p 0 (replicate format.actions 0) t
-  unfolding none_yet
-  lines_start count end p t e = let same : end - 0 ≡ count = omega arith in rw same
-
   module _ (whole : Got (List ℕ)) (count p k : ℕ) (last t : List ℕ) (so_far : whole ≡ From (count - k) p k last t) where
-    pub lines_done : count ≤ k → outcome (To p) t ≡ whole
+    pub lines_done : count ≤ k → outcome (Ok p) t ≡ whole
     unfolding outcome noting next repeated lines_noted
     lines_done h = let none : count - k ≡ zero = omega arith in sym (so_far ∙ rw none)
 
-    module _ (r : Read) (k<count : k < count) (read : r ≡ line_read c (line_at form c n m s p)) where
+    module _ (r : Numbered) (k<count : k < count) (read : numbered r ≡ line_read c (line_at form c n m s p)) where
       left_is : count - k ≡ suc (count - (k + 1))
       left_is = omega arith
 
-      pub lines_fault : (j q : ℕ) → r ≡ Fault j q → outcome (Stop j q) t ≡ whole
+      pub lines_fault : (why : Fault) → r ≡ Err why → outcome (Err why) t ≡ whole
       unfolding outcome noting next repeated
-      lines_fault j q is = sym (so_far ∙ rw (left_is, stops form n m s c p j q (sym read ∙ is)))
+      lines_fault why is = sym (so_far ∙ rw (left_is, stops form n m s c p (sym read ∙ ap numbered is)))
 
-      module _ (a e : ℕ) (is : r ≡ Value a e) where
+      module _ (a e : ℕ) (is : r ≡ Ok (a, e)) where
         stood : (l : Line c) × (line_at form c n m s p ≡ got l e) × Stands c n m s p a l
-        stood = stands form n m s c p a e (sym read ∙ is)
+        stood = stands form n m s c p a e (sym read ∙ ap numbered is)
 
         pub lines_next : (f : ℕ) (u : List ℕ) → f ≡ get_or s (p + 1) 0 → u ≡ line_noted c (get_or last a 0) (k + 1) p a f t → whole ≡ From (count - (k + 1)) e (k + 1) (set last a (k + 1)) u
         unfolding repeated next
@@ -243,9 +200,9 @@ module _ (form : Form) (c : Section) (n m : ℕ) (s : List ℕ) where
             )
 
   -- Room for what is noted of a line.
-  module _ (p a e : ℕ) (r : Read) (read : r ≡ line_read c (line_at form c n m s p)) (is : r ≡ Value a e) where
-    here : Stands c n m s p a (stands form n m s c p a e (sym read ∙ is)).0
-    here = (stands form n m s c p a e (sym read ∙ is)).2
+  module _ (p a e : ℕ) (r : Numbered) (read : numbered r ≡ line_read c (line_at form c n m s p)) (is : r ≡ Ok (a, e)) where
+    here : Stands c n m s p a (stands form n m s c p a e (sym read ∙ ap numbered is)).0
+    here = (stands form n m s c p a e (sym read ∙ ap numbered is)).2
 
     pub second_there : p + 1 < length s
     second_there = here.second
@@ -269,30 +226,20 @@ module _ (form : Form) (c : Section) (n m : ℕ) (s : List ℕ) where
   counted left p t slot (got xs q) e = rw (repeated_length (line_at form c n m s) left p xs q e)
   counted left p t slot (fault k q) e = refl
 
-  pub section_none : (p : ℕ) (t u : List ℕ) → length s ≤ p → outcome (Stop 11 (length s)) u ≡ noting (section_noted c) (section_at (line_at form c n m s) s p) t
+  pub section_none : (p : ℕ) (t u : List ℕ) (why : Fault) → length s ≤ p → why ≡ record { refusal = EndsTooSoon; place = length s } → outcome (Err why) u ≡ noting (section_noted c) (section_at (line_at form c n m s) s p) t
   unfolding section_at outcome noting next
-  section_none p t u h = rw (byte_none s p h)
+  section_none p t u why h e = rw (e, byte_none s p h)
 
-  pub section_there : (p : ℕ) (t u v : List ℕ) (r : Passed) → p < length s → u ≡ set t (count_slot c) (get_or s p 0)
-      → outcome r v ≡ From (get_or s p 0) (p + 1) 0 none_yet u → outcome r v ≡ noting (section_noted c) (section_at (line_at form c n m s) s p) t
-  unfolding section_at section_noted next
-  section_there p t u v r h put e =
-      rw (byte_is s p h) (e ∙ ap (From (get_or s p 0) (p + 1) 0 none_yet) put ∙ counted (get_or s p 0) (p + 1) t (count_slot c) _ refl)
-
-pub slot_effects : (c : Code.Section) → c ≡ Effects → effects_slot ≡ count_slot (section_of c)
-unfolding count_slot section_of
-slot_effects c e = rw e
-
-pub slot_executability : (c : Code.Section) → c ≡ Runs → executability_slot ≡ count_slot (section_of c)
-unfolding count_slot section_of
-slot_executability c e = rw e
-
-pub slot_knowledge : (c : Code.Section) → c ≡ Senses → knowledge_slot ≡ count_slot (section_of c)
-unfolding count_slot section_of
-slot_knowledge c e = rw e
-
-pub count_noted : (c : Code.Section) (count x slot : ℕ) (t u : List ℕ) → slot ≡ count_slot (section_of c) → x ≡ count → u ≡ set t slot x → u ≡ set t (count_slot (section_of c)) count
-count_noted c count x slot t u at_slot is e = e ∙ rw (at_slot, is)
+  pub section_starts : (p count slot : ℕ) (t u : List ℕ) → p < length s → count ≡ get_or s p 0 → slot ≡ count_slot c → u ≡ set t slot count
+      → noting (section_noted c) (section_at (line_at form c n m s) s p) t ≡ From (count - 0) (p + 1) 0 (replicate format.actions 0) u
+  unfolding section_at section_noted next none_yet
+  section_starts p count slot t u h is at_slot put =
+      let all : count ≡ count - 0 = omega arith in
+      rw (byte_is s p h, sym is) (
+      sym (counted count (p + 1) t (count_slot c) _ refl)
+      ∙ ap (From count (p + 1) 0 none_yet) (ap (λ (i : ℕ). set t i count) (sym at_slot) ∙ sym put)
+      ∙ ap (λ (left : ℕ). From left (p + 1) 0 none_yet u) all
+      )
 
 slot_most : (c : Section) → count_slot c < slots
 unfolding count_slot
@@ -300,51 +247,35 @@ slot_most effects = omega arith
 slot_most executability = omega arith
 slot_most knowledge = omega arith
 
-pub slot_fits : (c : Code.Section) (slot : ℕ) → slot ≡ count_slot (section_of c) → slot < slots
-slot_fits c slot e = rw e (slot_most (section_of c))
-
--- A fault before anything was built.
-module _ {A B : Type 0} where
-  pub fault_turned : {n i k q : ℕ} → ◌≡◌ {A = Got A} (fault n i) (fault k q) → ◌≡◌ {A = Got B} (fault n i) (fault k q)
-  fault_turned e = ap turned e
-    where
-      turned : Got A → Got B
-      turned (got x p) = fault 0 0
-      turned (fault j p) = fault j p
-
-module _ {A B : Type 0} where
-  pub fault_first : (g : Got A) (build : A → B) (k q : ℕ) → next g (λ x p. got (build x) p) ≡ fault k q → g ≡ fault k q
-  unfolding next
-  fault_first (got x p) build k q e = absurd (fault≢got (sym e))
-  fault_first (fault i p) build k q e = fault_turned e
+pub slot_there : (c : Section) (slot : ℕ) → slot ≡ count_slot c → slot < slots
+slot_there c slot e = rw e (slot_most c)
 
 -- WHAT WAS READ WITH THE TABLE, from what the reader answered.
 module _ {A : Type 0} (note : A → List ℕ → List ℕ) (g : Got A) (r : Passed) (t u : List ℕ) (read : outcome r u ≡ noting note g t) where
-  pub noting_got : (q : ℕ) → r ≡ To q → (x : A) × (g ≡ got x q) × (u ≡ note x t)
+  pub noting_got : (q : ℕ) → r ≡ Ok q → (x : A) × (g ≡ got x q) × (u ≡ note x t)
   unfolding noting outcome
   noting_got q is = let whole : noting note g t ≡ got u q = sym read ∙ rw is in let w = next_got g _ whole in (w.0, w.2 ∙ ap (got w.0) (got_place w.3), sym (got_same w.3))
 
-  pub noting_fault : (k q : ℕ) → r ≡ Stop k q → g ≡ fault k q
+  pub noting_fault : (why : Fault) → r ≡ Err why → g ≡ stopped why
   unfolding noting outcome
-  noting_fault k q is = fault_first g (λ x. note x t) k q (sym read ∙ rw is)
+  noting_fault why is = fault_first g (λ x. note x t) _ _ (sym read ∙ rw is)
 
 -- The three sections, one after another.
-module _ (form : Form) (n m : ℕ) (s : List ℕ) (p : ℕ) (t u : List ℕ) (first : Passed) (read : outcome first u ≡ noting (section_noted (section_of Effects)) (section_at (line_at form (section_of Effects) n m s) s p) t) where
-  pub three_first : (k q : ℕ) (v : List ℕ) → first ≡ Stop k q → outcome (Stop k q) v ≡ three_sections form n m s p t
-  unfolding three_sections next section_of outcome
-  three_first k q v is = rw (noting_fault (section_noted effects) (section_at (line_at form effects n m s) s p) first t u read k q is)
+module _ (form : Form) (n m : ℕ) (s : List ℕ) (p : ℕ) (t u : List ℕ) (first : Passed) (read : outcome first u ≡ noting (section_noted effects) (section_at (line_at form effects n m s) s p) t) where
+  pub three_first : (why : Fault) (v : List ℕ) → first ≡ Err why → outcome (Err why) v ≡ three_sections form n m s p t
+  unfolding three_sections next outcome
+  three_first why v is = rw (noting_fault (section_noted effects) (section_at (line_at form effects n m s) s p) first t u read why is)
 
-  module _ (q : ℕ) (is : first ≡ To q) (then : Passed) (v : List ℕ) (read-too : outcome then v ≡ noting (section_noted (section_of Runs)) (section_at (line_at form (section_of Runs) n m s) s q) u) where
+  module _ (q : ℕ) (is : first ≡ Ok q) (then : Passed) (v : List ℕ) (read-too : outcome then v ≡ noting (section_noted executability) (section_at (line_at form executability n m s) s q) u) where
     first_got : (es : List Effect) × (section_at (line_at form effects n m s) s p ≡ got es q) × (u ≡ section_noted effects es t)
-    unfolding section_of
     first_got = noting_got (section_noted effects) (section_at (line_at form effects n m s) s p) first t u read q is
 
-    pub three_second : (k r : ℕ) (w : List ℕ) → then ≡ Stop k r → outcome (Stop k r) w ≡ three_sections form n m s p t
-    unfolding three_sections next section_of outcome
-    three_second k r w e = rw (first_got.1, noting_fault (section_noted executability) (section_at (line_at form executability n m s) s q) then u v read-too k r e)
+    pub three_second : (why : Fault) (w : List ℕ) → then ≡ Err why → outcome (Err why) w ≡ three_sections form n m s p t
+    unfolding three_sections next outcome
+    three_second why w e = rw (first_got.1, noting_fault (section_noted executability) (section_at (line_at form executability n m s) s q) then u v read-too why e)
 
-    pub three_whole : (r : ℕ) (last : Passed) (w : List ℕ) → then ≡ To r → outcome last w ≡ noting (section_noted (section_of Senses)) (section_at (line_at form (section_of Senses) n m s) s r) v → outcome last w ≡ three_sections form n m s p t
-    unfolding three_sections next section_of noting
+    pub three_whole : (r : ℕ) (last : Passed) (w : List ℕ) → then ≡ Ok r → outcome last w ≡ noting (section_noted knowledge) (section_at (line_at form knowledge n m s) s r) v → outcome last w ≡ three_sections form n m s p t
+    unfolding three_sections next noting
     three_whole r last w e read-last =
         let g = first_got in
         let h = noting_got (section_noted executability) (section_at (line_at form executability n m s) s q) then u v read-too r e in

@@ -12,7 +12,7 @@ use Rattle.meaning.proofs.TestLaws.{by-test, pick_true, pick_false, pick-cases}
 use Rattle.meaning.proofs.SettledLaws.{next_got, got_same, fault≢got}
 use Rattle.meaning.proofs.RangeLaws.{count_within, count_least}
 use Rattle.parsing.specs.Masks.{FewValues}
-use Rattle.reading.specs.Requested.{values_first}
+use Rattle.parsing.specs.Read.{values_first}
 use Rattle.reading.proofs.SectionLaws.{got_place, number_got, count_got}
 
 module _ (n : ℕ) (s : List ℕ) where

@@ -1,17 +1,12 @@
 -- What reading leaves in its notes, as a function of what the definitions read. Lines are numbered from 1 in file order, so that 0 is no line; items from 0.
-use Rattle.std.specs.Prelude.{ℕ, ◌+◌, ◌-◌, ◌*◌, ◌/◌, ◌%◌, Bool, List, [], ◌∷◌, length, get_or, set, replicate, eqb, ltb}
+use Rattle.std.specs.Prelude.{ℕ, ◌+◌, ◌-◌, ◌*◌, ◌/◌, ◌%◌, ◌≡◌, refl, Bool, List, [], ◌∷◌, Ok, Err, length, get_or, set, replicate, eqb, ltb}
 use Rattle.meaning.specs.Tests.{pick}
 use Rattle.meaning.specs.Limits.{format}
 use Rattle.meaning.specs.Requests.{Effect, Executability, Knowledge, Table}
 use Rattle.meaning.specs.declared.Form.{Form}
-use Rattle.meaning.specs.Reading.{Got, got, fault, next, count_at, literals_at, effect_at, executability_at, knowledge_at, section_at}
-use Rattle.parsing.specs.declared.bytes.Read.{Read}
-use Rattle.parsing.specs.Read.{effect_read, executability_read, knowledge_read}
+use Rattle.meaning.specs.Reading.{Got, got, next, count_at, literals_at, effect_at, executability_at, knowledge_at, section_at}
+use Rattle.parsing.specs.Read.{Passed, stopped, effect_read, executability_read, knowledge_read}
 use Rattle.parsing.specs.Bits.{bit_of, with_bit}
-use Rattle.reading.specs.declared.sections.Section as Code
-use Rattle.reading.specs.declared.sections.Section.TheVariants.{Effects, Executability as Runs, Knowledge as Senses}
-use Rattle.parsing.specs.declared.lists.Passed.{Passed}
-use Rattle.parsing.specs.declared.lists.Passed.TheVariants.{To, Fault as Stop}
 
 -- THE SLOTS.
 -- Item i: the place of its first byte.
@@ -121,7 +116,7 @@ module _ {A : Type 0} where
   noting note g t = next g λ x p. got (note x t) p
 
 unfoldable pub outcome : Passed → List ℕ → Got (List ℕ)
-outcome r t = elim r [ To p ↦ got t p | Stop n p ↦ fault n p ]
+outcome r t = elim r [ Ok p ↦ got t p | Err f ↦ stopped f ]
 
 -- LINES. What a new line of an action comes after, by its last line so far.
 unfoldable pub before : (last action : ℕ) → ℕ
@@ -146,9 +141,6 @@ pair_noted a f t = raised (sensed_to + a) (f + 1) (raised (sensed_from + a) (for
 pub data Section : Type 0 where
   effects executability knowledge : Section
 
-unfoldable pub section_of : Code.Section → Section
-section_of c = elim c [ Effects ↦ effects | Runs ↦ executability | Senses ↦ knowledge ]
-
 abbrev pub Line : Section → Type 0
 Line effects = Effect
 Line executability = Executability
@@ -170,7 +162,7 @@ note_line executability last k x = appended run_lines last k x.place x.action
 note_line knowledge last k l = pair_noted l.action l.fluent
 
 -- The action of a line that was read, and the place after it.
-unfoldable pub line_read : (c : Section) → Got (Line c) → Read
+unfoldable pub line_read : (c : Section) → Got (Line c) → Got ℕ
 line_read effects = effect_read
 line_read executability = executability_read
 line_read knowledge = knowledge_read
@@ -194,6 +186,18 @@ unfoldable pub count_slot : Section → ℕ
 count_slot effects = effects_slot
 count_slot executability = executability_slot
 count_slot knowledge = knowledge_slot
+
+pub effects_counted : effects_slot ≡ count_slot effects
+unfolding count_slot
+effects_counted = refl
+
+pub executability_counted : executability_slot ≡ count_slot executability
+unfolding count_slot
+executability_counted = refl
+
+pub knowledge_counted : knowledge_slot ≡ count_slot knowledge
+unfolding count_slot
+knowledge_counted = refl
 
 unfoldable pub section_noted : (c : Section) → List (Line c) → List ℕ → List ℕ
 section_noted c xs t = lines_noted c 0 none_yet xs (set t (count_slot c) (length xs))

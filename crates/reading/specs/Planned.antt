@@ -1,14 +1,13 @@
 -- What reading a plan leaves in the notes, as a function of the plan as a tree. The notes stand before the tree in each definition.
-use Rattle.std.specs.Prelude.{ℕ, ◌+◌, List, length, set, eqb, ltb}
+use Rattle.std.specs.Prelude.{ℕ, ◌+◌, List, Ok, Err, length, set, eqb, ltb}
 use Rattle.meaning.specs.Tests.{pick}
 use Rattle.meaning.specs.Limits.{format}
 use Rattle.meaning.specs.Requests.{Sequence, done, item, Item, act, branching, Branches, none, branch}
 use Rattle.meaning.specs.declared.Form.{Form}
-use Rattle.meaning.specs.Reading.{Got, got, fault, next, Met, body_at, sequence_at, branching_at}
+use Rattle.meaning.specs.Reading.{Got, got, next, Met, body_at, sequence_at, branching_at}
+use Rattle.parsing.specs.Read.{Numbered, stopped}
 use Rattle.reading.specs.Listed.{span}
 use Rattle.reading.specs.Noted.{item_place, item_next, branch_place, branch_item, around_from}
-use Rattle.parsing.specs.declared.bytes.Read.{Read}
-use Rattle.parsing.specs.declared.bytes.Read.TheVariants.{Value, Fault}
 
 -- How many items a part has (FORMAT 2.30).
 unfoldable mutual
@@ -94,8 +93,8 @@ module _ {A : Type 0} where
   unfoldable pub noting_met : (A → List ℕ) → Got (Met A) → Got (Met (List ℕ))
   noting_met note g = next g λ x e. got (record { value = note x.value; items = x.items }) e
 
-unfoldable pub outcome_met : Read → List ℕ → Got (Met (List ℕ))
-outcome_met r t = elim r [ Value met p ↦ got (record { value = t; items = met }) p | Fault n p ↦ fault n p ]
+unfoldable pub outcome_met : Numbered → List ℕ → Got (Met (List ℕ))
+outcome_met r t = elim r [ Ok x ↦ got (record { value = t; items = x.0 }) x.1 | Err f ↦ stopped f ]
 
 -- One branch: its condition and its sequence.
 unfoldable pub branch_noting : Form → (n m deep up : ℕ) → List ℕ → (p met : ℕ) → List ℕ → Got (Met (List ℕ))

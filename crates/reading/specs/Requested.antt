@@ -4,7 +4,7 @@ use Rattle.meaning.specs.Limits.{format}
 use Rattle.meaning.specs.Requests.{Request}
 use Rattle.meaning.specs.declared.Form.{Form}
 use Rattle.meaning.specs.declared.Form.TheVariants.{Flags, Valued}
-use Rattle.meaning.specs.Reading.{Got, got, next, fluents, list_at, literals_at, past_values, plan_at}
+use Rattle.meaning.specs.Reading.{Got, got, next, fluents, list_at, literals_at, plan_at}
 use Rattle.meaning.specs.Guards.{GuardedRequest}
 use Rattle.reading.specs.Listed.{span}
 use Rattle.reading.specs.Noted.{plan_slot, items_slot, goals_slot, guards_slot, table_noted}
@@ -13,10 +13,6 @@ use Rattle.reading.specs.Planned.{items_of, bytes_of, plan_noted}
 -- Numbers of values are looked for behind the input's first byte, so a request with values starts there.
 unfoldable pub Starts : Form → (place : ℕ) → Type 0
 Starts form p = form ≡ Valued → p ≡ 0
-
--- What stands between the fluents' count and the actions' count.
-unfoldable pub values_first : Form → (n : ℕ) → List ℕ → ℕ → Got (Unit {0})
-values_first form n s p = past_values form n s p (got tt)
 
 -- Where the goals' count stands, and the plan's.
 unfoldable pub goals_place : Form → Request → ℕ

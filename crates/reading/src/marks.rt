@@ -5,7 +5,7 @@ ghost use Rattle.meaning.specs.States.{mark_of, known, state_of};
 ghost use Rattle.meaning.specs.Asking.{short_by};
 ghost use Rattle.reading.specs.Listed.{listed, ListHere, holds_as, look_at};
 
-use parsing::bytes::wide;
+use super::listed::listed;
 use parsing::limits;
 
 // A partial state: a mark for each fluent.
@@ -40,17 +40,10 @@ pub fn holds(test: Test, marks: &Marks, l: usize) -> bool
     requires { l < all_literals }
     ensures { result ≡ holds_as test marks.now l }
 {
-    let f = l / 2;
     let mark = mark_of(l);
     match test {
-        Test::Known => marks[f] == mark,
-        Test::Possible => {
-            let other = 3 - mark;
-            if marks[f] == other {
-                return false;
-            }
-            true
-        }
+        Test::Known => marks[l / 2] == mark,
+        Test::Possible => marks[l / 2] != 3 - mark,
     }
 }
 
@@ -59,48 +52,27 @@ pub fn each_holds(test: Test, marks: &Marks, s: &[u8], p: usize) -> bool
     requires { ListHere all_literals s.now p }
     ensures { result ≡ each_of (holds_as test marks.now) (listed s.now p) }
 {
-    let first = p + 1;
-    let end = first + wide(s[p]);
-    let mut i = first;
-    while i < end {
-        let l = wide(s[i]);
-        i += 1;
-        let good = holds(test, marks, l);
-        if good {
-            continue;
-        }
-        return false;
-    }
-    true
+    listed(s, p)
+        .iter()
+        .all(|l| holds(test, marks, usize::from(*l)))
 }
 
+// Kept: one pass tells both, whether each is known and whether each is possible, so that no byte of a body is read twice (`tests/gate/reads`); `all` and `any` tell one.
 // What a look at the list at p tells: each literal is known true, or each is possible and some is not known, or some is known false.
 pub fn look_at(marks: &Marks, s: &[u8], p: usize) -> Look
     requires { ListHere all_literals s.now p }
     ensures { result ≡ look_at marks.now (listed s.now p) }
 {
-    let first = p + 1;
-    let end = first + wide(s[p]);
     let mut sure = true;
-    let mut at = first;
-    while at < end {
-        let l = wide(s[at]);
-        at += 1;
-        let f = l / 2;
+    for literal in listed(s, p) {
+        let l = usize::from(*literal);
         let mark = mark_of(l);
-        if marks[f] == mark {
-            continue;
-        }
-        let other = 3 - mark;
-        if marks[f] == other {
+        if marks[l / 2] == 3 - mark {
             return Look::Never;
         }
-        sure = false;
+        sure &= marks[l / 2] == mark;
     }
-    if sure {
-        return Look::Known;
-    }
-    Look::Possible
+    if sure { Look::Known } else { Look::Possible }
 }
 
 // How many literals of the list at p are not known true.
@@ -108,20 +80,10 @@ pub fn short_by(marks: &Marks, s: &[u8], p: usize) -> usize
     requires { ListHere all_literals s.now p }
     ensures { result ≡ short_by (known marks.now) (listed s.now p) }
 {
-    let first = p + 1;
-    let end = first + wide(s[p]);
-    let mut short = 0;
-    let mut i = first;
-    while i < end {
-        let l = wide(s[i]);
-        i += 1;
-        let good = holds(Test::Known, marks, l);
-        if good {
-            continue;
-        }
-        short += 1;
-    }
-    short
+    listed(s, p)
+        .iter()
+        .filter(|l| !holds(Test::Known, marks, usize::from(**l)))
+        .count()
 }
 
 // The state that holds the literals of the list at p and nothing else.
@@ -130,14 +92,9 @@ pub fn state_of(s: &[u8], p: usize) -> Marks
     ensures { result ≡ state_of format (listed s.now p) }
 {
     let mut marks = [limits::UNKNOWN_MARK; limits::FLUENTS];
-    let first = p + 1;
-    let end = first + wide(s[p]);
-    let mut i = first;
-    while i < end {
-        let l = wide(s[i]);
-        i += 1;
-        let f = l / 2;
-        marks[f] = mark_of(l);
+    for l in listed(s, p) {
+        let l = usize::from(*l);
+        marks[l / 2] = mark_of(l);
     }
     marks
 }

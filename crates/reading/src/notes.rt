@@ -4,9 +4,9 @@ ghost use Rattle.reading.specs.Noted;
 ghost use Rattle.reading.specs.Noted.{line_place, next_line, first_line, appended, raised, pair_slot, pair_there, pair_noted, run_lines, slots, line_numbers};
 
 use parsing::bits::{has_bit, with_bit};
-use parsing::bytes::wide;
 use parsing::limits;
 
+// Kept: what is proved of notes, from `AtHand` and `TableHere` upward, is said of one list of slots, and one function takes where a section's slots start for effects and executability lines alike.
 // What reading leaves behind; specs/Noted says what its slots hold.
 pub const ITEM_PLACE: usize = 0;
 
@@ -56,15 +56,16 @@ pub const SENSED_WORDS: usize = limits::ACTIONS * ROW_WORDS;
 
 pub const SLOTS: usize = SENSED + SENSED_WORDS;
 
+// Kept: see above, at the slots.
 pub type Notes = [u16; SLOTS];
 
 pub fn widened(x: u16) -> usize
     ensures { result ≡ x }
 {
-    x as usize
+    usize::from(x)
 }
 
-// The notes have all their slots. A reference to them does not tell so, but a slice does.
+// The notes have all their slots.
 pub fn sized(t: &Notes)
     ensures { length t.now ≡ slots }
 {
@@ -75,7 +76,7 @@ pub fn get(t: &Notes, slot: usize) -> usize
     requires { slot < slots }
     ensures { result ≡ get_or t.now slot 0 }
 {
-    widened(t[slot])
+    usize::from(t[slot])
 }
 
 pub fn put(t: &mut Notes, slot: usize, value: usize)
@@ -116,6 +117,7 @@ pub fn first_line(t: &Notes, lines: usize, a: usize) -> usize
     get(t, slot)
 }
 
+// Kept: what a new line comes after is told as its number in the links, where 256 + a stands before the first line of action a, so that both are linked by one store.
 // What a new line of action a comes after: the action's last line so far, or 256 + a where it has none.
 fn before(last: u8, a: usize) -> usize
     requires { a < format.actions }
@@ -124,20 +126,30 @@ fn before(last: u8, a: usize) -> usize
     if last == 0 {
         return limits::LINE_NUMBERS + a;
     }
-    wide(last)
+    usize::from(last)
 }
 
-// Line k, of action a, stands at p; `last` is the action's last line so far.
-pub fn append_line(t: &mut Notes, lines: usize, last: u8, k: usize, p: usize, a: usize)
+// A line: its number in its section, its place, its action and the byte after the action.
+#[derive(Drop)]
+pub struct Line {
+    pub number: usize,
+    pub place: usize,
+    pub action: usize,
+    pub second: usize,
+    ghost number_fits: { number < line_numbers },
+    ghost place_fits: { place < 65536 },
+    ghost acts: { action < format.actions },
+}
+
+// Kept: the links lie in the notes, which are a fixed array, since no heap is used.
+// The line comes after `last`, its action's last line so far.
+pub fn append_line(t: &mut Notes, lines: usize, last: u8, line: &Line)
     requires lines_le_run_lines { lines ≤ run_lines }
-    requires k_lt_line_numbers { k < line_numbers }
-    requires p_bound { p < 65536 }
-    requires a_lt_actions { a < format.actions }
-    ensures { t.new ≡ appended lines last k p a t.old }
+    ensures { t.new ≡ appended lines last line.now.number line.now.place line.now.action t.old }
 {
-    put(t, lines + k, p);
-    let i = before(last, a);
-    put(t, lines + limits::LINE_NUMBERS + i, k);
+    put(t, lines + line.number, line.place);
+    let i = before(last, line.action);
+    put(t, lines + limits::LINE_NUMBERS + i, line.number);
 }
 
 // The slot holds at least the value.

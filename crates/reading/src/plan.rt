@@ -7,11 +7,11 @@ ghost use Rattle.reading.specs.Planned.{number_after, branch_noted, item_noted, 
 
 use super::notes;
 use super::notes::{Notes, put};
-use meaning::Form;
-use parsing::bytes::{Read, byte_at, count_at, two_bytes_at};
+use parsing::bytes::{byte_at, count_at, two_bytes_at};
+use parsing::faults::{Fault, Refusal};
+use parsing::inputs::Input;
 use parsing::limits;
-use parsing::lists::Passed;
-use parsing::table_lines::body_at;
+use parsing::shapes::Shape;
 
 // What follows an item: the item met next, or where it is the last of its sequence what stands around the sequence.
 fn after(left: usize, met: usize, up: usize) -> usize
@@ -23,6 +23,7 @@ fn after(left: usize, met: usize, up: usize) -> usize
     met
 }
 
+// Kept: clause and parameters of `up`. It is a slot's number or the limit of items, is handed on as it is and stored here alone; a type for it would be made and taken apart once each.
 // The item with `met` items before it, and `more` up to its end.
 fn note_next(left: usize, met: usize, more: usize, up: usize, t: &mut Notes)
     requires met_lt_format { met < format.items }
@@ -33,6 +34,7 @@ fn note_next(left: usize, met: usize, more: usize, up: usize, t: &mut Notes)
     put(t, notes::ITEM_NEXT + met, after(left, more, up));
 }
 
+// Kept: the links lie in the notes, which are a fixed array, since no heap is used.
 // A sequence of a branch is passed over through its first item.
 fn note_branch(first: usize, met: usize, p: usize, t: &mut Notes)
     requires met_le_format { met ≤ format.items }
@@ -46,168 +48,123 @@ fn note_branch(first: usize, met: usize, p: usize, t: &mut Notes)
     put(t, notes::BRANCH_ITEM + first, met);
 }
 
+// Kept: parameters. How deep branchings may still be nested changes from call to call, where the input stays the same.
+// Kept: clause of the length. `Input` serves the readers of lines too, which ask nothing of the length; what is noted here are places, which have to fit the notes.
 // A sequence with `before` items before it, in which `deep` branchings may stand one inside another: the items met up to its end.
 #[cycle(branch_at_branching_at_item_at_sequence_at)]
-fn sequence_at(
-    form: Form,
-    n: usize,
-    m: usize,
+fn sequence_at<S: Shape>(
+    input: &Input<S>,
     deep: usize,
-    s: &[u8],
     start: usize,
     before: usize,
     up: usize,
     t: &mut Notes,
-) -> Read
-    requires counted { Counted form s.now }
-    requires n_le_fluents { n ≤ format.fluents }
+) -> Result<(usize, usize), Fault>
     requires before_le_format { before ≤ format.items }
     requires up_bound { up ≤ 2 * format.items }
-    requires s_len_bound { length s.now ≤ format.derivation }
-    ensures { outcome_met result t.new ≡ noting_met (sequence_noted form up before start t.old) (sequence_at format form n m s.now (branching_at format form n m s.now deep) start before) }
+    requires s_len_bound { length input.now.bytes.now ≤ format.derivation }
+    ensures { outcome_met result t.new ≡ noting_met (sequence_noted S.FORM up before start t.old) (sequence_at format S.FORM input.now.fluents input.now.actions input.now.bytes.now (branching_at format S.FORM input.now.fluents input.now.actions input.now.bytes.now deep) start before) }
 {
-    match two_bytes_at(s, start) {
-        Read::Value(c, q) => {
-            let mut left = c;
-            let mut p = q;
-            let mut met = before;
-            while 0 < left {
-                match item_at(form, n, m, deep, s, p, met, t) {
-                    Read::Value(more, e) => {
-                        note_next(left, met, more, up, t);
-                        p = e;
-                        met = more;
-                        left -= 1;
-                    }
-                    Read::Fault(k, e) => {
-                        return Read::Fault(k, e);
-                    }
-                }
-            }
-            note_branch(before, met, p, t);
-            Read::Value(met, p)
-        }
-        Read::Fault(k, q) => Read::Fault(k, q),
+    let (count, first) = two_bytes_at(input.bytes, start)?;
+    let mut p = first;
+    let mut met = before;
+    for i in 0..count {
+        let (more, after) = item_at(input, deep, p, met, t)?;
+        note_next(count - i, met, more, up, t);
+        p = after;
+        met = more;
     }
+    note_branch(before, met, p, t);
+    Ok((met, p))
 }
 
 // One item: the items met up to its end.
 #[cycle(branch_at_branching_at_item_at_sequence_at)]
-fn item_at(
-    form: Form,
-    n: usize,
-    m: usize,
+fn item_at<S: Shape>(
+    input: &Input<S>,
     deep: usize,
-    s: &[u8],
     p: usize,
     met: usize,
     t: &mut Notes,
-) -> Read
-    requires counted { Counted form s.now }
-    requires n_le_fluents { n ≤ format.fluents }
-    requires s_len_bound { length s.now ≤ format.derivation }
-    ensures { outcome_met result t.new ≡ noting_met (item_noted form met t.old) (item_at format form n m s.now (branching_at format form n m s.now deep) p met) }
+) -> Result<(usize, usize), Fault>
+    requires s_len_bound { length input.now.bytes.now ≤ format.derivation }
+    ensures { outcome_met result t.new ≡ noting_met (item_noted S.FORM met t.old) (item_at format S.FORM input.now.fluents input.now.actions input.now.bytes.now (branching_at format S.FORM input.now.fluents input.now.actions input.now.bytes.now deep) p met) }
 {
-    match byte_at(s, p) {
-        Read::Value(x, q) => {
-            if limits::ITEMS <= met {
-                return Read::Fault(limits::TOO_MANY_ITEMS, p);
-            }
-            if x == limits::BRANCHING_BYTE as usize {
-                put(t, notes::ITEM_PLACE + met, p);
-                return branching_at(form, n, m, deep, s, p, met, t);
-            }
-            if m <= x {
-                return Read::Fault(limits::TOO_LARGE, p);
-            }
-            put(t, notes::ITEM_PLACE + met, p);
-            let more = met + 1;
-            Read::Value(more, q)
-        }
-        Read::Fault(k, q) => Read::Fault(k, q),
+    let (x, after) = byte_at(input.bytes, p)?;
+    if limits::ITEMS <= met {
+        return Err(Refusal::TooManyItems.at(p));
     }
+    if x == usize::from(limits::BRANCHING_BYTE) {
+        put(t, notes::ITEM_PLACE + met, p);
+        return branching_at(input, deep, p, met, t);
+    }
+    if input.actions <= x {
+        return Err(Refusal::TooLarge.at(p));
+    }
+    put(t, notes::ITEM_PLACE + met, p);
+    Ok((met + 1, after))
 }
 
 // The branching that is item i and whose byte 255 stands at `start`.
 #[cycle(branch_at_branching_at_item_at_sequence_at)]
-fn branching_at(
-    form: Form,
-    n: usize,
-    m: usize,
+fn branching_at<S: Shape>(
+    input: &Input<S>,
     deep: usize,
-    s: &[u8],
     start: usize,
     i: usize,
     t: &mut Notes,
-) -> Read
-    requires counted { Counted form s.now }
-    requires n_le_fluents { n ≤ format.fluents }
-    requires s_len_bound { length s.now ≤ format.derivation }
-    requires start_in_bounds { start < length s.now }
+) -> Result<(usize, usize), Fault>
+    requires s_len_bound { length input.now.bytes.now ≤ format.derivation }
+    requires start_in_bounds { start < length input.now.bytes.now }
     requires i_lt_format { i < format.items }
-    ensures { outcome_met result t.new ≡ noting_met (inside_noted form i t.old) (branching_at format form n m s.now deep start (i + 1)) }
+    ensures { outcome_met result t.new ≡ noting_met (inside_noted S.FORM i t.old) (branching_at format S.FORM input.now.fluents input.now.actions input.now.bytes.now deep start (i + 1)) }
 {
     if deep == 0 {
-        return Read::Fault(limits::NESTED_TOO_DEEP, start);
+        return Err(Refusal::NestedTooDeep.at(start));
     }
-    let inner = deep - 1;
-    let count = start + 1;
-    let up = notes::AROUND_FROM + i;
-    match count_at(1, limits::BRANCHES, s, count) {
-        Read::Value(c, q) => {
-            let mut left = c;
-            let mut p = q;
-            let mut met = i + 1;
-            while 0 < left {
-                match branch_at(form, n, m, inner, s, p, met, up, t) {
-                    Read::Value(more, e) => {
-                        p = e;
-                        met = more;
-                        left -= 1;
-                    }
-                    Read::Fault(k, e) => {
-                        return Read::Fault(k, e);
-                    }
-                }
-            }
-            Read::Value(met, p)
-        }
-        Read::Fault(k, q) => Read::Fault(k, q),
+    let (count, first) = count_at(1, limits::BRANCHES, input.bytes, start + 1)?;
+    let mut p = first;
+    let mut met = i + 1;
+    for _ in 0..count {
+        let (more, after) = branch_at(input, deep - 1, p, met, notes::AROUND_FROM + i, t)?;
+        p = after;
+        met = more;
     }
+    Ok((met, p))
 }
 
 // A branch: its condition and its sequence.
 #[cycle(branch_at_branching_at_item_at_sequence_at)]
-fn branch_at(
-    form: Form,
-    n: usize,
-    m: usize,
+fn branch_at<S: Shape>(
+    input: &Input<S>,
     deep: usize,
-    s: &[u8],
     p: usize,
     met: usize,
     up: usize,
     t: &mut Notes,
-) -> Read
-    requires counted { Counted form s.now }
-    requires n_le_fluents { n ≤ format.fluents }
+) -> Result<(usize, usize), Fault>
     requires met_le_format { met ≤ format.items }
     requires up_bound { up ≤ 2 * format.items }
-    requires s_len_bound { length s.now ≤ format.derivation }
-    ensures { outcome_met result t.new ≡ branch_noting form n m deep up s.now p met t.old }
+    requires s_len_bound { length input.now.bytes.now ≤ format.derivation }
+    ensures { outcome_met result t.new ≡ branch_noting S.FORM input.now.fluents input.now.actions deep up input.now.bytes.now p met t.old }
 {
-    match body_at(form, n, s, p) {
-        Passed::To(q) => sequence_at(form, n, m, deep, s, q, met, up, t),
-        Passed::Fault(k, q) => Read::Fault(k, q),
-    }
+    let sequence = input.body_at(p)?;
+    sequence_at(input, deep, sequence, met, up, t)
 }
 
-// The plan: how many items it has.
-pub fn plan_at(form: Form, n: usize, m: usize, s: &[u8], start: usize, t: &mut Notes) -> Read
-    requires counted { Counted form s.now }
+// The plan, over n fluents and m actions: how many items it has.
+pub fn plan_at<S: Shape>(
+    n: usize,
+    m: usize,
+    s: &[u8],
+    start: usize,
+    t: &mut Notes,
+) -> Result<(usize, usize), Fault>
+    requires counted { Counted S.FORM s.now }
     requires n_le_fluents { n ≤ format.fluents }
     requires s_len_bound { length s.now ≤ format.derivation }
-    ensures { outcome_met result t.new ≡ noting_met (plan_noted form start t.old) (plan_at format form n m s.now start) }
+    ensures { outcome_met result t.new ≡ noting_met (plan_noted S.FORM start t.old) (plan_at format S.FORM n m s.now start) }
 {
-    sequence_at(form, n, m, limits::NESTED, s, start, 0, limits::ITEMS, t)
+    let input = Input::<S>::new(s, n, m);
+    sequence_at(&input, limits::NESTED, start, 0, limits::ITEMS, t)
 }

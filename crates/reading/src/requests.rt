@@ -2,71 +2,32 @@ ghost use Rattle.std.specs.Prelude.{◌≡◌, ◌≤◌, ◌<◌, length};
 ghost use Rattle.meaning.specs.Limits.{format};
 ghost use Rattle.meaning.specs.Reading.{table_at};
 ghost use Rattle.parsing.specs.Masks.{Counted};
-ghost use Rattle.parsing.specs.Read.{passed};
-ghost use Rattle.reading.specs.Noted.{facts_first, actions_first, table_noted, noting, outcome};
-ghost use Rattle.reading.specs.Requested.{Starts, places_noted, values_first, goals_first, plan_first};
+ghost use Rattle.reading.specs.Noted.{table_noted, noting, outcome};
+ghost use Rattle.reading.specs.Requested.{Starts, places_noted, goals_first, plan_first};
 
 use super::notes;
 use super::notes::{Notes, put};
 use super::plan::plan_at;
 use super::sections::three_sections;
-use meaning::Form;
-use parsing::bytes::{Read, count_at};
-use parsing::forms::literals_at;
+use parsing::bytes::count_at;
+use parsing::faults::Fault;
+use parsing::inputs::Input;
 use parsing::limits;
-use parsing::lists::{Kind, Passed, list_at};
-use parsing::values::value_counts_at;
-
-// Sections 2 to 5, over n fluents and m actions.
-fn facts_at(form: Form, n: usize, m: usize, s: &[u8], p: usize, t: &mut Notes) -> Passed
-    requires counted { Counted form s.now }
-    requires n_le_fluents { n ≤ format.fluents }
-    requires m_le_actions { m ≤ format.actions }
-    requires s_len_bound { length s.now ≤ format.request }
-    ensures { outcome result t.new ≡ facts_first form n m s.now p t.old }
-{
-    match literals_at(form, n, limits::LISTED, s, p) {
-        Passed::To(q) => three_sections(form, n, m, s, q, t),
-        Passed::Fault(k, q) => Passed::Fault(k, q),
-    }
-}
-
-// Sections 1 to 5 after the fluents' count.
-fn actions_at(form: Form, n: usize, s: &[u8], p: usize, t: &mut Notes) -> Passed
-    requires counted { Counted form s.now }
-    requires n_le_fluents { n ≤ format.fluents }
-    requires s_len_bound { length s.now ≤ format.request }
-    ensures { outcome result t.new ≡ actions_first form n s.now p t.old }
-{
-    match count_at(1, limits::ACTIONS, s, p) {
-        Read::Value(m, q) => facts_at(form, n, m, s, q, t),
-        Read::Fault(k, q) => Passed::Fault(k, q),
-    }
-}
-
-// What stands between the fluents' count and the actions' count: with values, how many each fluent has.
-fn values_at(form: Form, n: usize, s: &[u8], p: usize) -> Passed
-    ensures { result ≡ passed (values_first form n s.now p) }
-{
-    match form {
-        Form::Flags => Passed::To(p),
-        Form::Valued => value_counts_at(n, s, p),
-    }
-}
+use parsing::lists::{Kind, list_at};
+use parsing::shapes::Shape;
 
 // Sections 1 to 5.
-pub fn table_at(form: Form, s: &[u8], p: usize, t: &mut Notes) -> Passed
-    requires starts { Starts form p }
+pub fn table_at<S: Shape>(s: &[u8], p: usize, t: &mut Notes) -> Result<usize, Fault>
+    requires starts { Starts S.FORM p }
     requires s_len_bound { length s.now ≤ format.request }
-    ensures { outcome result t.new ≡ noting table_noted (table_at format form s.now p) t.old }
+    ensures { outcome result t.new ≡ noting table_noted (table_at format S.FORM s.now p) t.old }
 {
-    match count_at(1, limits::FLUENTS, s, p) {
-        Read::Value(n, q) => match values_at(form, n, s, q) {
-            Passed::To(r) => actions_at(form, n, s, r, t),
-            Passed::Fault(k, r) => Passed::Fault(k, r),
-        },
-        Read::Fault(k, q) => Passed::Fault(k, q),
-    }
+    let (n, values) = count_at(1, limits::FLUENTS, s, p)?;
+    let actions = S::values_at(n, s, values)?;
+    let (m, facts) = count_at(1, limits::ACTIONS, s, actions)?;
+    let input = Input::<S>::new(s, n, m);
+    let effects = input.literals_at(limits::LISTED, facts)?;
+    three_sections(&input, effects, t)
 }
 
 // Where the plan and the goals stand and how many items the plan has; of guards there are none so far.
@@ -83,40 +44,43 @@ fn put_places(plan: usize, items: usize, goals: usize, t: &mut Notes)
 }
 
 // Sections 7 and 8, after a plan of a given number of items whose count stands at `plan`.
-fn goals_at(
-    form: Form,
-    n: usize,
-    s: &[u8],
+fn goals_at<S: Shape>(
+    input: &Input<S>,
     plan: usize,
     items: usize,
     p: usize,
     t: &mut Notes,
-) -> Passed
-    requires counted { Counted form s.now }
-    requires n_le_fluents { n ≤ format.fluents }
+) -> Result<usize, Fault>
     requires plan_bound { plan < 65536 }
     requires bound { items < 65536 }
     requires p_bound { p < 65536 }
-    ensures { outcome result t.new ≡ goals_first form n s.now plan items p t.old }
+    ensures { outcome result t.new ≡ goals_first S.FORM input.now.fluents input.now.bytes.now plan items p t.old }
 {
-    match literals_at(form, n, limits::LISTED, s, p) {
-        Passed::To(q) => {
-            put_places(plan, items, p, t);
-            list_at(Kind::Fluents, n, limits::LISTED, s, q)
-        }
-        Passed::Fault(k, q) => Passed::Fault(k, q),
-    }
+    let whether = input.literals_at(limits::LISTED, p)?;
+    put_places(plan, items, p, t);
+    list_at(
+        Kind::Fluents,
+        input.fluents,
+        limits::LISTED,
+        input.bytes,
+        whether,
+    )
 }
 
 // Sections 6 to 8, over n fluents and m actions.
-pub fn request_at(form: Form, n: usize, m: usize, s: &[u8], p: usize, t: &mut Notes) -> Passed
-    requires counted { Counted form s.now }
+pub fn request_at<S: Shape>(
+    n: usize,
+    m: usize,
+    s: &[u8],
+    p: usize,
+    t: &mut Notes,
+) -> Result<usize, Fault>
+    requires counted { Counted S.FORM s.now }
     requires n_le_fluents { n ≤ format.fluents }
     requires s_len_bound { length s.now ≤ format.request }
-    ensures { outcome result t.new ≡ plan_first form n m s.now p t.old }
+    ensures { outcome result t.new ≡ plan_first S.FORM n m s.now p t.old }
 {
-    match plan_at(form, n, m, s, p, t) {
-        Read::Value(items, q) => goals_at(form, n, s, p, items, q, t),
-        Read::Fault(k, q) => Passed::Fault(k, q),
-    }
+    let (items, goals) = plan_at::<S>(n, m, s, p, t)?;
+    let input = Input::<S>::new(s, n, m);
+    goals_at(&input, p, items, goals, t)
 }

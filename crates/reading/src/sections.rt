@@ -1,147 +1,145 @@
-ghost use Rattle.std.specs.Prelude.{◌≡◌, ◌≤◌, ◌<◌, length, set};
+ghost use Rattle.std.specs.Prelude.{◌≡◌, ◌≤◌, ◌<◌, ℕ, length};
 ghost use Rattle.meaning.specs.Limits.{format};
-ghost use Rattle.meaning.specs.Reading.{repeated, section_at};
-ghost use Rattle.parsing.specs.Masks.{Counted};
+ghost use Rattle.meaning.specs.Reading.{section_at};
+ghost use Rattle.parsing.specs.Read.{numbered};
 ghost use Rattle.reading.specs.Noted;
-ghost use Rattle.reading.specs.Noted.{section_of, line_at, line_read, line_noted, none_yet, lines_noted, count_slot, section_noted, three_sections, noting, outcome, line_numbers};
+ghost use Rattle.reading.specs.Noted.{line_at, line_read, line_noted, count_slot, effects_slot, executability_slot, knowledge_slot, effects_counted, executability_counted, knowledge_counted, section_noted, three_sections, noting, outcome};
 
 use super::notes;
-use super::notes::{Notes, append_line, note_pair, put};
-use meaning::Form;
-use parsing::bytes::{Read, wide};
+use super::notes::{Line, Notes, append_line, note_pair, put};
+use parsing::faults::{Fault, Refusal};
+use parsing::inputs::Input;
 use parsing::limits;
-use parsing::lists::Passed;
-use parsing::table_lines::{effect_at, executability_at, knowledge_at};
+use parsing::shapes::Shape;
+use parsing::table_lines::knowledge_at;
 
-// Sections 3, 4 and 5.
+// One of sections 3, 4 and 5.
+pub trait Section: Drop {
+    // The slot that has how many lines it has.
+    const COUNT: usize;
+
+    ghost COUNT: { ℕ };
+
+    // Which of them it is.
+    ghost section: { Noted.Section };
+
+    // Kept: parameters. A place in an input is all that a reader needs; more is only repeated by the implementations.
+    // A line: its action.
+    fn line_at<S: Shape>(input: &Input<S>, p: usize) -> Result<(usize, usize), Fault>
+        ensures { numbered result ≡ line_read section (line_at S.FORM section input.now.fluents input.now.actions input.now.bytes.now p) };
+
+    // Kept: parameters, since each implementation has to repeat the trait's.
+    // A line is noted; `last` is its action's last line so far.
+    fn note_line(last: u8, line: &Line, t: &mut Notes)
+        requires { section ≡ Noted.Section.knowledge → line.now.second < format.fluents }
+        ensures { t.new ≡ line_noted section last line.now.number line.now.place line.now.action line.now.second t.old };
+
+    ghost count_law: { COUNT ≡ count_slot section };
+}
+
 #[derive(Clone, Copy)]
-pub enum Section {
-    Effects,
-    Executability,
-    Knowledge,
-}
+pub struct Effects;
 
-// A line: its action.
-fn line_at(form: Form, c: Section, n: usize, m: usize, s: &[u8], p: usize) -> Read
-    requires counted { Counted form s.now }
-    requires n_le_fluents { n ≤ format.fluents }
-    ensures { result ≡ line_read (section_of c) (line_at form (section_of c) n m s.now p) }
-{
-    match c {
-        Section::Effects => effect_at(form, n, m, s, p),
-        Section::Executability => executability_at(form, n, m, s, p),
-        Section::Knowledge => knowledge_at(n, m, s, p),
+#[derive(Clone, Copy)]
+pub struct Executability;
+
+#[derive(Clone, Copy)]
+pub struct Knowledge;
+
+impl Section for Effects {
+    const COUNT: usize = notes::COUNT_OF_EFFECTS;
+
+    ghost COUNT = { effects_slot };
+
+    ghost section = { Noted.Section.effects };
+
+    fn line_at<S: Shape>(input: &Input<S>, p: usize) -> Result<(usize, usize), Fault> {
+        input.effect_at(p)
     }
-}
 
-// Line k, of action a, stands at p; `last` is the action's last line so far, and f is the byte after the action.
-fn note_line(c: Section, last: u8, k: usize, p: usize, a: usize, f: usize, t: &mut Notes)
-    requires k_lt_line_numbers { k < line_numbers }
-    requires p_bound { p < 65536 }
-    requires a_lt_actions { a < format.actions }
-    requires f_lt_fluents { section_of c ≡ Noted.Section.knowledge → f < format.fluents }
-    ensures { t.new ≡ line_noted (section_of c) last k p a f t.old }
-{
-    match c {
-        Section::Effects => append_line(t, notes::EFFECTS, last, k, p, a),
-        Section::Executability => append_line(t, notes::EXECUTABILITY, last, k, p, a),
-        Section::Knowledge => note_pair(t, a, f),
+    fn note_line(last: u8, line: &Line, t: &mut Notes) {
+        append_line(t, notes::EFFECTS, last, line)
     }
+
+    ghost count_law = { effects_counted };
 }
 
-// A given number of lines from a place on. Each action's last line so far is in `last`; once the section is read nobody asks for it.
-fn lines_from(
-    form: Form,
-    c: Section,
-    n: usize,
-    m: usize,
-    s: &[u8],
-    count: u8,
+impl Section for Executability {
+    const COUNT: usize = notes::COUNT_OF_EXECUTABILITY;
+
+    ghost COUNT = { executability_slot };
+
+    ghost section = { Noted.Section.executability };
+
+    fn line_at<S: Shape>(input: &Input<S>, p: usize) -> Result<(usize, usize), Fault> {
+        input.executability_at(p)
+    }
+
+    fn note_line(last: u8, line: &Line, t: &mut Notes) {
+        append_line(t, notes::EXECUTABILITY, last, line)
+    }
+
+    ghost count_law = { executability_counted };
+}
+
+impl Section for Knowledge {
+    const COUNT: usize = notes::COUNT_OF_KNOWLEDGE;
+
+    ghost COUNT = { knowledge_slot };
+
+    ghost section = { Noted.Section.knowledge };
+
+    fn line_at<S: Shape>(input: &Input<S>, p: usize) -> Result<(usize, usize), Fault> {
+        knowledge_at(input.fluents, input.actions, input.bytes, p)
+    }
+
+    fn note_line(last: u8, line: &Line, t: &mut Notes) {
+        note_pair(t, line.action, line.second)
+    }
+
+    ghost count_law = { knowledge_counted };
+}
+
+// A section: a count byte, then as many lines. Each action's last line so far is in `last`; once the section is read nobody asks for it.
+pub fn section_at<C: Section, S: Shape>(
+    input: &Input<S>,
     start: usize,
     t: &mut Notes,
-) -> Passed
-    requires counted { Counted form s.now }
-    requires n_le_fluents { n ≤ format.fluents }
-    requires m_le_actions { m ≤ format.actions }
-    requires s_len_bound { length s.now ≤ format.request }
-    ensures { outcome result t.new ≡ noting (lines_noted (section_of c) 0 none_yet) (repeated (line_at form (section_of c) n m s.now) count start) t.old }
+) -> Result<usize, Fault>
+    requires m_le_actions { input.now.actions ≤ format.actions }
+    requires s_len_bound { length input.now.bytes.now ≤ format.request }
+    ensures { outcome result t.new ≡ noting (section_noted C.section) (section_at (line_at S.FORM C.section input.now.fluents input.now.actions input.now.bytes.now) input.now.bytes.now start) t.old }
 {
-    let end = wide(count);
-    let mut k = 0;
-    let mut p = start;
+    let s = input.bytes;
+    if s.len() <= start {
+        return Err(Refusal::EndsTooSoon.at(s.len()));
+    }
+    let count = usize::from(s[start]);
+    put(t, C::COUNT, count);
+    let mut p = start + 1;
     let mut last = [0u8; limits::ACTIONS];
-    while k < end {
-        match line_at(form, c, n, m, s, p) {
-            Read::Value(a, e) => {
-                let q = p + 1;
-                let f = wide(s[q]);
-                k += 1;
-                note_line(c, last[a], k, p, a, f, t);
-                last[a] = k as u8;
-                p = e;
-            }
-            Read::Fault(number, at) => {
-                return Passed::Fault(number, at);
-            }
-        }
+    for k in 0..count {
+        let (a, after) = C::line_at(input, p)?;
+        let line = Line {
+            number: k + 1,
+            place: p,
+            action: a,
+            second: usize::from(s[p + 1]),
+        };
+        C::note_line(last[a], &line, t);
+        last[a] = (k + 1) as u8;
+        p = after;
     }
-    Passed::To(p)
-}
-
-fn count_slot(c: Section) -> usize
-    ensures { result ≡ count_slot (section_of c) }
-{
-    match c {
-        Section::Effects => notes::COUNT_OF_EFFECTS,
-        Section::Executability => notes::COUNT_OF_EXECUTABILITY,
-        Section::Knowledge => notes::COUNT_OF_KNOWLEDGE,
-    }
-}
-
-fn note_count(c: Section, count: u8, t: &mut Notes)
-    ensures { t.new ≡ set t.old (count_slot (section_of c)) count }
-{
-    let slot = count_slot(c);
-    put(t, slot, wide(count));
-}
-
-// A section: a count byte, then as many lines.
-pub fn section_at(
-    form: Form,
-    c: Section,
-    n: usize,
-    m: usize,
-    s: &[u8],
-    p: usize,
-    t: &mut Notes,
-) -> Passed
-    requires counted { Counted form s.now }
-    requires n_le_fluents { n ≤ format.fluents }
-    requires m_le_actions { m ≤ format.actions }
-    requires s_len_bound { length s.now ≤ format.request }
-    ensures { outcome result t.new ≡ noting (section_noted (section_of c)) (section_at (line_at form (section_of c) n m s.now) s.now p) t.old }
-{
-    if s.len() <= p {
-        return Passed::Fault(limits::ENDS_TOO_SOON, s.len());
-    }
-    let q = p + 1;
-    note_count(c, s[p], t);
-    lines_from(form, c, n, m, s, s[p], q, t)
+    Ok(p)
 }
 
 // Sections 3 to 5.
-pub fn three_sections(form: Form, n: usize, m: usize, s: &[u8], p: usize, t: &mut Notes) -> Passed
-    requires counted { Counted form s.now }
-    requires n_le_fluents { n ≤ format.fluents }
-    requires m_le_actions { m ≤ format.actions }
-    requires s_len_bound { length s.now ≤ format.request }
-    ensures { outcome result t.new ≡ three_sections form n m s.now p t.old }
+pub fn three_sections<S: Shape>(input: &Input<S>, p: usize, t: &mut Notes) -> Result<usize, Fault>
+    requires m_le_actions { input.now.actions ≤ format.actions }
+    requires s_len_bound { length input.now.bytes.now ≤ format.request }
+    ensures { outcome result t.new ≡ three_sections S.FORM input.now.fluents input.now.actions input.now.bytes.now p t.old }
 {
-    match section_at(form, Section::Effects, n, m, s, p, t) {
-        Passed::To(q) => match section_at(form, Section::Executability, n, m, s, q, t) {
-            Passed::To(r) => section_at(form, Section::Knowledge, n, m, s, r, t),
-            Passed::Fault(k, r) => Passed::Fault(k, r),
-        },
-        Passed::Fault(k, q) => Passed::Fault(k, q),
-    }
+    let executability = section_at::<Effects, S>(input, p, t)?;
+    let knowledge = section_at::<Executability, S>(input, executability, t)?;
+    section_at::<Knowledge, S>(input, knowledge, t)
 }

@@ -8,39 +8,28 @@ use mathlib.Core.List.{List, map}
 use lib.ListN.{length}
 use mir.Syntax.{w64}
 use mir.Val.{Fits}
-use Rattle.meaning.specs.Tests.{both, either, some_of, each_of, Has}
-use Rattle.meaning.specs.Limits.{format, all_literals}
+use Rattle.meaning.specs.Tests.{both, either, some_of, Has}
+use Rattle.meaning.specs.Limits.{format}
 use Rattle.meaning.specs.Requests.{Executability}
 use Rattle.meaning.specs.Lines.{executability_of}
-use Rattle.meaning.specs.States.{State}
 use Rattle.meaning.specs.declared.Form.{Form}
-use Rattle.meaning.specs.declared.Form.TheVariants.{Flags, Valued}
 use Rattle.meaning.proofs.TestLaws.{those_has, map_has, some_mapped}
 use Rattle.reading.specs.Noted.{run_lines, line_place, next_line, first_line}
-use Rattle.reading.specs.Listed.{listed_as, ListHere, ValuesHere, LiteralsHere, holds_as}
-use Rattle.reading.specs.declared.marks.Test.TheVariants.{Possible}
-use Rattle.valuing.specs.Valuing as Valuing
+use Rattle.reading.specs.Listed.{listed_as, LiteralsHere}
 use Rattle.finding.specs.TablesHere.{table_in, RunsHere}
 use Rattle.finding.proofs.ByBranch.{list_starts}
 use Rattle.finding.proofs.AheadLaws.{Ahead, ahead_starts, ahead_none, ahead_first, line_others, line_rest, line_fit}
-use Rattle.refusing.specs.Refusal16.{agreeing, agreeing_sets, passing_lines}
+use Rattle.refusing.specs.Refusal16.{agreeing, passing_lines}
 
--- ONE BODY against two states, and against two sets.
-pub agreed : (one other : State) (b : List ℕ) (first r : Bool) → first ≡ each_of (holds_as Possible one) b → first ≡ true → r ≡ each_of (holds_as Possible other) b → r ≡ agreeing one other b
-unfolding agreeing holds_as both
-agreed one other b first r tested e is = is ∙ sym (rw (sym tested, e))
+-- ONE BODY against two.
+module _ {Held : Type 0} (meets : List ℕ → Held → List ℕ → Bool) (s : List ℕ) (one other : Held) (b : List ℕ) (first : Bool) (tested : first ≡ meets s one b) where
+  pub agreed : (r : Bool) → first ≡ true → r ≡ meets s other b → r ≡ agreeing meets s one other b
+  unfolding agreeing both
+  agreed r e is = is ∙ sym (rw (sym tested, e))
 
-pub not_agreed : (one other : State) (b : List ℕ) (first : Bool) → first ≡ each_of (holds_as Possible one) b → first ≡ false → false ≡ agreeing one other b
-unfolding agreeing holds_as both
-not_agreed one other b first tested e = sym (rw (sym tested, e))
-
-pub sets_agreed : (s one other b : List ℕ) (first r : Bool) → first ≡ Valuing.agreeing s one b → first ≡ true → r ≡ Valuing.agreeing s other b → r ≡ agreeing_sets s one other b
-unfolding agreeing_sets both
-sets_agreed s one other b first r tested e is = is ∙ sym (rw (sym tested, e))
-
-pub sets_not_agreed : (s one other b : List ℕ) (first : Bool) → first ≡ Valuing.agreeing s one b → first ≡ false → false ≡ agreeing_sets s one other b
-unfolding agreeing_sets both
-sets_not_agreed s one other b first tested e = sym (rw (sym tested, e))
+  pub not_agreed : first ≡ false → false ≡ agreeing meets s one other b
+  unfolding agreeing both
+  not_agreed e = sym (rw (sym tested, e))
 
 -- ALL LINES.
 module _ (form : Form) (s t : List ℕ) (test : List ℕ → Bool) where
@@ -98,10 +87,3 @@ module _ (form : Form) (s t : List ℕ) (test : List ℕ → Bool) where
               ahead = line_others _ t run_lines k run.ahead more j onward;
               same = run_whole ∙ ap (λ (x : Bool). either x (some_of passing_at others)) e;
             }
-
--- The body at hand, in each form.
-pub flags_run : (s t : List ℕ) (test : List ℕ → Bool) (whole : Bool) (k : ℕ) → Passing Flags s t test whole k → 0 < k → (p : ℕ) → p ≡ line_place t run_lines k → ListHere all_literals s (p + 1)
-flags_run = run_body Flags
-
-pub values_run : (s t : List ℕ) (test : List ℕ → Bool) (whole : Bool) (k : ℕ) → Passing Valued s t test whole k → 0 < k → (p : ℕ) → p ≡ line_place t run_lines k → ValuesHere s (p + 1)
-values_run = run_body Valued

@@ -10,21 +10,19 @@ use lib.ListN.{length, get_or, set, length-set, replicate, length-replicate, get
 use lib.Seq.{get_or-set_same, get_or-set_other}
 use mir.Syntax.{w8, w64}
 use mir.Val.{Fits}
+use Rattle.std.specs.Prelude.{None, Some}
 use Rattle.meaning.specs.Tests.{either, pick, some_of}
-use Rattle.meaning.specs.Limits.{format, all_literals}
+use Rattle.meaning.specs.Limits.{format}
 use Rattle.meaning.specs.Refusals
 use Rattle.meaning.specs.Refusals.{first_against}
 use Rattle.meaning.specs.declared.Form.{Form}
 use Rattle.meaning.specs.declared.Form.TheVariants.{Flags, Valued}
 use Rattle.meaning.proofs.TestLaws.{by-test, pick_true, pick_false}
-use Rattle.parsing.specs.Masks.{FewValues, Counted}
+use Rattle.parsing.specs.Masks.{Counted}
 use Rattle.parsing.proofs.LineReaderLaws.{counted_values}
-use Rattle.reading.specs.Listed.{ListHere, ValuesHere}
 use Rattle.reading.specs.Noted.{line_numbers}
-use Rattle.finding.specs.declared.places.Found.TheVariants.{Nowhere, At}
 use Rattle.finding.specs.Places.{found}
 use Rattle.finding.specs.LinesHere.{effect_from, EffectHere, place_in, effects_in, EffectsHere}
-use Rattle.finding.specs.TablesHere.{RunsHere}
 use Rattle.refusing.specs.Refusal16.{contradictory_as, effects_before, among, fluent_by, buckets, bucket_at, Last, Linked, Sought, bucket_linked, linked_slots}
 use Rattle.refusing.proofs.FlagClashes.{flags_bucket}
 use Rattle.refusing.proofs.ValueClashes.{values_bucket}
@@ -55,6 +53,12 @@ module _ (form : Form) (s : List ℕ) (p : ℕ) (here : EffectHere form s p) whe
   pub effect_second : p + 1 < length s
   effect_second = let ends = effect_ends form s p here in omega arith
 
+  pub effect_third : p + 2 < length s
+  effect_third = effect_ends form s p here
+
+  pub third_fits : Fits w64 (length s) → Fits w64 (p + 2)
+  third_fits room = let ends = effect_ends form s p here in let most = room.fits in record { fits = omega arith }
+
   pub effect_fits : Fits w64 (length s) → Fits w64 (p + 1)
   effect_fits room = let ends = effect_ends form s p here in let most = room.fits in record { fits = omega arith }
 
@@ -72,27 +76,6 @@ bucket_same : (form : Form) (s : List ℕ) (p q : ℕ) → Counted form s → Ef
     → contradictory_as form s (effect_from form s p) (effect_from form s q) ≡ true → bucket_at form s q ≡ bucket_at form s p
 bucket_same Flags s p q counted here there h = flags_bucket s p q h
 bucket_same Valued s p q counted here there h = values_bucket s p q (counted_values Valued s refl counted) here there h
-
-pub counted_few : (s : List ℕ) → FewValues s → Counted Valued s
-unfolding Counted
-counted_few s few _ = few
-
--- ONE FORM for the other.
-module _ (form to : Form) (is : form ≡ to) (s t : List ℕ) where
-  pub runs_as : RunsHere form s t → RunsHere to s t
-  runs_as h = rw (sym is) h
-
-  pub effects_as : (k : ℕ) → EffectsHere form s t k → EffectsHere to s t k
-  effects_as k h = rw (sym is) h
-
-  pub linked_as : (same : List ℕ) (k : ℕ) → Linked form s t same k → Linked to s t same k
-  linked_as same k h = rw (sym is) h
-
-  pub sought_as : (k j : ℕ) → Sought form s t k j → Sought to s t k j
-  sought_as k j h = rw (sym is) h
-
-  pub among_as : (k : ℕ) (r : Bool) → r ≡ among to s t k k → r ≡ among form s t k k
-  among_as k r h = rw is h
 
 -- THE CHAIN.
 module _ (form : Form) (s t : List ℕ) (k : ℕ) where
@@ -205,20 +188,6 @@ module _ (form : Form) (s t : List ℕ) (k : ℕ) (here : EffectsHere form s t (
                 rest = rest_is ∙ ap (λ (b : Bool). either b (among form s t k (j - 1))) e ∙ effects_skip form s t k counted here (j - 1) i (let less = below in omega arith) last.most last.none;
               }
 
--- The body of the effect that is compared, in each form.
-module _ (s t : List ℕ) (k p : ℕ) (at : p ≡ place_in t (k + 1)) where
-  pub flags_body : EffectsHere Flags s t (k + 1) → ListHere all_literals s (p + 2)
-  flags_body here = (new_fit Flags s t k here p at).body
-
-  pub values_body : EffectsHere Valued s t (k + 1) → ValuesHere s (p + 3)
-  values_body here = (new_fit Valued s t k here p at).body
-
-  pub flags_body_fits : EffectsHere Flags s t (k + 1) → Fits w64 (length s) → Fits w64 (p + 2)
-  flags_body_fits here room = let ends = (flags_body here).ends in let most = room.fits in record { fits = omega arith }
-
-  pub values_body_fits : EffectsHere Valued s t (k + 1) → Fits w64 (length s) → Fits w64 (p + 3)
-  values_body_fits here room = let ends = (values_body here).ends in let most = room.fits in record { fits = omega arith }
-
 -- ALL THE CHAINS, first empty.
 pub linked_none : (form : Form) (s t : List ℕ) → Linked form s t (replicate linked_slots 0) 0
 linked_none form s t =
@@ -310,13 +279,13 @@ module _ (form : Form) (s t : List ℕ) (count k : ℕ) (most : count ≤ 255) (
         let left : count - k ≡ suc (count - (k + 1)) = omega arith in
         so_far ∙ rw (left, tested, before_next form s t k)
 
-    pub effects_met : (p : ℕ) → p ≡ place_in t (k + 1) → met ≡ true → At p ≡ found whole
+    pub effects_met : (p : ℕ) → p ≡ place_in t (k + 1) → met ≡ true → Some p ≡ found whole
     unfolding found
-    effects_met p at e = sym (ap found (first_is ∙ pick_true _ _ _ e) ∙ ap At (sym at))
+    effects_met p at e = sym (ap found (first_is ∙ pick_true _ _ _ e) ∙ ap Some (sym at))
 
     pub effects_next : met ≡ false → whole ≡ first_against (contradictory_as form s) (effects_before form s t (k + 1)) (effects_in form s t (k + 1) (count - (k + 1)))
     effects_next e = first_is ∙ pick_false _ _ _ e
 
-pub effects_done : (form : Form) (s t : List ℕ) (count k : ℕ) (whole : Refusals.Found) → count ≤ k → whole ≡ first_against (contradictory_as form s) (effects_before form s t k) (effects_in form s t k (count - k)) → Nowhere ≡ found whole
+pub effects_done : (form : Form) (s t : List ℕ) (count k : ℕ) (whole : Refusals.Found) → count ≤ k → whole ≡ first_against (contradictory_as form s) (effects_before form s t k) (effects_in form s t k (count - k)) → None ≡ found whole
 unfolding first_against effects_in found
 effects_done form s t count k whole h so_far = let none : count - k ≡ zero = omega arith in let is : whole ≡ Refusals.Found.nowhere = so_far ∙ rw none in sym (ap found is)

@@ -8,13 +8,13 @@ use lib.Dec.{ltb}
 use mir.Syntax.{w64}
 use mir.Val.{Fits}
 use borrow.Author.Tests.{lt-ltb, le-ltb}
+use Rattle.std.specs.Prelude.{None, Some}
 use Rattle.meaning.specs.Tests.{pick}
 use Rattle.meaning.specs.Limits.{format}
 use Rattle.meaning.specs.Requests.{Effect}
 use Rattle.meaning.specs.Refusals
 use Rattle.meaning.specs.Refusals.{mixed_in}
 use Rattle.meaning.proofs.TestLaws.{pick_true, pick_false}
-use Rattle.finding.specs.declared.places.Found.TheVariants.{Nowhere, At}
 use Rattle.finding.specs.Places.{found}
 use Rattle.finding.specs.LinesHere.{knowledge_from, knowledge_in, KnowledgeHere, Acting}
 use Rattle.refusing.specs.Refusal17.{MixedFound}
@@ -48,14 +48,14 @@ module _ (s : List ℕ) (start count : ℕ) (here : KnowledgeHere s start count)
           let left : count - k ≡ suc (count - (k + 1)) = omega arith in
           looked.rest es acting ∙ rw (left, sym read, sym (acting.slot a acts), got)
 
-      pub look_met : 0 < first → MixedFound s t start count (At (start + 2 * k))
+      pub look_met : 0 < first → MixedFound s t start count (Some (start + 2 * k))
       unfolding found
       look_met h = record { holds = λ es acting. sym (ap found (look_is es acting ∙ pick_true _ _ _ (lt-ltb 0 first h))) }
 
       pub look_next : first ≤ 0 → Looked s t start count (k + 1)
       look_next h = record { rest = λ es acting. look_is es acting ∙ pick_false _ _ _ (le-ltb 0 first h) }
 
-pub look_done : (s t : List ℕ) (start count k : ℕ) → Looked s t start count k → count ≤ k → MixedFound s t start count Nowhere
+pub look_done : (s t : List ℕ) (start count k : ℕ) → Looked s t start count k → count ≤ k → MixedFound s t start count None
 unfolding mixed_in knowledge_in found
 look_done s t start count k looked h = record {
   holds = λ es acting.

@@ -3,142 +3,105 @@ use Prim.Native.Nat.{ℕ, zero, suc, ◌+◌, ◌-◌, ◌≤◌, ◌<◌}
 use native.Mathlib.Omega.{arith}
 use mathlib.Core.Path.{◌≡◌, refl, sym, ◌∙◌, ap, ap₂}
 use mathlib.Core.Bool.{Bool, true, false}
-use mathlib.Core.List.{List}
+use mathlib.Core.List.{List, ◌∷◌}
 use lib.ListN.{length, get_or}
 use borrow.Author.Tests.{eq-eqb, ne_eqb}
+use Rattle.std.specs.Prelude.{Option, None, Some}
 use Rattle.meaning.specs.Tests.{both, fails, pick, each_of}
-use Rattle.meaning.specs.Limits.{format, all_literals}
+use Rattle.meaning.specs.Limits.{all_literals}
 use Rattle.meaning.specs.Refusals
-use Rattle.meaning.specs.States.{State, state_of}
 use Rattle.meaning.proofs.TestLaws.{pick_true, pick_false}
-use Rattle.reading.specs.Listed.{listed, listed_as, ListHere, ValuesHere, holds_as}
-use Rattle.reading.specs.declared.marks.Test.TheVariants.{Possible}
-use Rattle.finding.specs.declared.places.Found.{Found}
-use Rattle.finding.specs.declared.places.Found.TheVariants.{Nowhere, At}
+use Rattle.reading.specs.Listed.{listed_as, ListHere, LiteralsHere}
 use Rattle.finding.specs.Places.{found}
-use Rattle.finding.specs.Branches.{place_after, item_after, conditions_from, BranchesHere, ItemHere}
-use Rattle.refusing.specs.Refusal18.{rules_out, sets_rule_out, rules_out_as, all_apart, item_apart, first_overlap}
-use Rattle.finding.proofs.ByBranch.{conditions_first, conditions_done, condition_first, branches_next}
-use Rattle.meaning.specs.declared.Form.TheVariants.{Flags, Valued}
+use Rattle.finding.specs.Branches.{place_after, item_after, conditions_from, BranchHere, BranchesHere, ItemHere}
+use Rattle.refusing.specs.Refusal18.{rules_out, rules_out_as, all_apart, item_apart, first_overlap}
+use Rattle.finding.proofs.ByBranch.{conditions_first, conditions_done, branch_first, condition_first, branches_next}
+use Rattle.meaning.specs.declared.Form.TheVariants.{Flags}
 use Rattle.meaning.specs.declared.Form.{Form}
-use Rattle.parsing.specs.Masks.{Allows, FewValues}
-use Rattle.valuing.specs.Valuing.{agreeing}
-use Rattle.valuing.proofs.TwosLaws.{listed_fluent}
-use Rattle.valuing.proofs.AgreeingLaws.{agreeing_beside}
+use Rattle.valuing.specs.Meets.{meets_as}
 
--- THE FIRST of some branches has a condition, in each form.
+-- THE FIRST of some branches has a condition.
 pub flags_condition : (s t : List ℕ) (left p i : ℕ) → 0 < left → BranchesHere Flags s t left p i → ListHere all_literals s p
 flags_condition = condition_first Flags
 
-pub values_condition : (s t : List ℕ) (left p i : ℕ) → 0 < left → BranchesHere Valued s t left p i → ValuesHere s p
-values_condition = condition_first Valued
+-- WHAT IS LEFT of so many branches, from branch k on, at p: what all their conditions give is what these give.
+pub record Left (form : Form) (s t : List ℕ) (all : List (List ℕ) → Bool) (whole : Bool) (left p i : ℕ) : Type 0 where
+  pub here : BranchesHere form s t left p i
+  pub same : whole ≡ all (conditions_from form s t left p i)
 
--- WHAT ONE CONDITION LEAVES against the others: a test that each of them passes, and that the first fails where it is met.
-module _ (form : Form) (test : List ℕ → Bool) (whole : Bool) (s t : List ℕ) (left p i : ℕ) (so_far : whole ≡ each_of test (conditions_from form s t left p i)) where
-  module _ (more : 0 < left) (b : Bool) (tested : test (listed_as form s p) ≡ fails b) where
-    out_first : whole ≡ both (fails b) (each_of test (conditions_from form s t (left - 1) (place_after form s t p i) (item_after form s t p i)))
-    unfolding each_of
-    out_first = so_far ∙ rw (conditions_first form s t left p i more, tested)
+module _ (form : Form) (s t : List ℕ) (all : List (List ℕ) → Bool) where
+  pub left_starts : (whole : Bool) (count p i : ℕ) → BranchesHere form s t count p i → whole ≡ all (conditions_from form s t count p i) → Left form s t all whole (count - 0) p i
+  left_starts whole count p i here same = let is : count - 0 ≡ count = omega arith in rw is (record { here = here; same = same })
 
-    out_not : b ≡ true → false ≡ whole
+  module _ (whole : Bool) (count k p i : ℕ) (left : Left form s t all whole (count - k) p i) (more : k < count) where
+    pub left_branch : BranchHere form s p i
+    left_branch = branch_first form s t (count - k) p i (omega arith) left.here
+
+    pub left_condition : LiteralsHere form s p
+    left_condition = condition_first form s t (count - k) p i (omega arith) left.here
+
+    module _ (q j : ℕ) (placed : q ≡ place_after form s t p i) (counted : j ≡ item_after form s t p i) where
+      pub left_others : BranchesHere form s t (count - k - 1) q j
+      left_others = branches_next form s t (count - k) p i (omega arith) left.here q j placed counted
+
+      left_first : whole ≡ all (listed_as form s p ∷ conditions_from form s t (count - k - 1) q j)
+      left_first = left.same ∙ ap all (conditions_first form s t (count - k) p i (omega arith) ∙ rw (placed, counted) refl)
+
+      left_next : whole ≡ all (conditions_from form s t (count - k - 1) q j) → Left form s t all whole (count - (k + 1)) q j
+      left_next same = let less : count - (k + 1) ≡ count - k - 1 = omega arith in rw less (record { here = left_others; same = same })
+
+-- By what is held: a test that each condition passes, and that the first fails where it is met.
+module _ {Held : Type 0} (meets : List ℕ → Held → List ℕ → Bool) (form : Form) (s t : List ℕ) (held : Held) (whole : Bool) (count k p i : ℕ)
+    (left : Left form s t (each_of (rules_out meets s held)) whole (count - k) p i) where
+  module _ (more : k < count) (b : Bool) (tested : b ≡ meets s held (listed_as form s p)) where
+    out_first : (q j : ℕ) → q ≡ place_after form s t p i → j ≡ item_after form s t p i → whole ≡ both (fails b) (each_of (rules_out meets s held) (conditions_from form s t (count - k - 1) q j))
+    unfolding each_of rules_out
+    out_first q j f g = left_first form s t (each_of (rules_out meets s held)) whole count k p i left more q j f g ∙ rw (sym tested)
+
+    pub out_not : b ≡ true → false ≡ whole
     unfolding both fails
-    out_not e = sym (out_first ∙ rw e)
+    out_not e = sym (out_first _ _ refl refl ∙ rw e)
 
-    out_next : b ≡ false → (q j : ℕ) → q ≡ place_after form s t p i → j ≡ item_after form s t p i → whole ≡ each_of test (conditions_from form s t (left - 1) q j)
+    pub out_next : b ≡ false → (q j : ℕ) → q ≡ place_after form s t p i → j ≡ item_after form s t p i → Left form s t (each_of (rules_out meets s held)) whole (count - (k + 1)) q j
     unfolding both fails
-    out_next e q j f g = out_first ∙ rw (e, f, g)
+    out_next e q j f g = left_next form s t (each_of (rules_out meets s held)) whole count k p i left more q j f g (out_first q j f g ∙ rw e)
 
-  pub out_done : left ≤ 0 → true ≡ whole
+  pub out_done : count ≤ k → true ≡ whole
   unfolding each_of
-  out_done h = sym (so_far ∙ rw (conditions_done form s t left p i h))
+  out_done h = sym (left.same ∙ rw (conditions_done form s t (count - k) p i (omega arith)))
 
--- By a state.
-module _ (whole : Bool) (s t : List ℕ) (held : State) (left p i : ℕ) (so_far : whole ≡ each_of (rules_out held) (conditions_from Flags s t left p i)) (more : 0 < left) (b : Bool)
-    (tested : b ≡ each_of (holds_as Possible held) (listed s p)) where
-  state_test : rules_out held (listed s p) ≡ fails b
-  unfolding rules_out
-  state_test = ap fails (sym tested)
-
-  pub flags_not : b ≡ true → false ≡ whole
-  flags_not = out_not Flags (rules_out held) whole s t left p i so_far more b state_test
-
-  pub flags_next : b ≡ false → (q j : ℕ) → q ≡ place_after Flags s t p i → j ≡ item_after Flags s t p i → whole ≡ each_of (rules_out held) (conditions_from Flags s t (left - 1) q j)
-  flags_next = out_next Flags (rules_out held) whole s t left p i so_far more b state_test
-
--- By sets.
-module _ (whole : Bool) (s t held : List ℕ) (left p i : ℕ) (so_far : whole ≡ each_of (sets_rule_out s held) (conditions_from Valued s t left p i)) (more : 0 < left) (b : Bool)
-    (tested : b ≡ agreeing s held (listed_as Valued s p)) where
-  sets_test : sets_rule_out s held (listed_as Valued s p) ≡ fails b
-  unfolding sets_rule_out
-  sets_test = ap fails (sym tested)
-
-  pub values_not : b ≡ true → false ≡ whole
-  values_not = out_not Valued (sets_rule_out s held) whole s t left p i so_far more b sets_test
-
-  pub values_next : b ≡ false → (q j : ℕ) → q ≡ place_after Valued s t p i → j ≡ item_after Valued s t p i → whole ≡ each_of (sets_rule_out s held) (conditions_from Valued s t (left - 1) q j)
-  values_next = out_next Valued (sets_rule_out s held) whole s t left p i so_far more b sets_test
-
--- The sets that a condition leaves rule out what it rules out.
-sets_are : (s t c sets : List ℕ) → Allows s c sets → FewValues s → (left p i : ℕ) → BranchesHere Valued s t left p i
-    → each_of (sets_rule_out s sets) (conditions_from Valued s t left p i) ≡ each_of (rules_out_as Valued s c) (conditions_from Valued s t left p i)
-unfolding conditions_from BranchesHere each_of sets_rule_out rules_out_as
-sets_are s t c sets so few zero p i here = refl
-sets_are s t c sets so few (suc left) p i here =
-    ap₂ both (ap fails (agreeing_beside s c sets (listed_as Valued s p) so few (listed_fluent s p here.0.condition)))
-    (sets_are s t c sets so few left (place_after Valued s t p i) (item_after Valued s t p i) here.1)
+-- What is held of a condition rules out what the condition does.
+module _ {Held : Type 0} (meets : List ℕ → Held → List ℕ → Bool) (form : Form) (s t c : List ℕ) (held : Held)
+    (law : (p : ℕ) → LiteralsHere form s p → meets s held (listed_as form s p) ≡ meets_as form s c (listed_as form s p)) where
+  out_is : (left p i : ℕ) → BranchesHere form s t left p i
+      → each_of (rules_out meets s held) (conditions_from form s t left p i) ≡ each_of (rules_out_as form s c) (conditions_from form s t left p i)
+  unfolding conditions_from BranchesHere each_of rules_out rules_out_as
+  out_is zero p i here = refl
+  out_is (suc left) p i here = ap₂ both (ap fails (law p here.0.condition)) (out_is left (place_after form s t p i) (item_after form s t p i) here.1)
 
 -- EVERY TWO conditions.
-module _ (form : Form) (whole : Bool) (s t : List ℕ) (left p i : ℕ) (so_far : whole ≡ all_apart form s (conditions_from form s t left p i)) where
-  module _ (more : 0 < left) (q j : ℕ) (b : Bool) (placed : q ≡ place_after form s t p i) (counted : j ≡ item_after form s t p i)
-      (tested : b ≡ each_of (rules_out_as form s (listed_as form s p)) (conditions_from form s t (left - 1) q j)) where
-    apart_first : whole ≡ both b (all_apart form s (conditions_from form s t (left - 1) q j))
+module _ {Held : Type 0} (meets : List ℕ → Held → List ℕ → Bool) (form : Form) (s t : List ℕ) (held : Held) (whole : Bool) (count k p i : ℕ)
+    (left : Left form s t (all_apart form s) whole (count - k) p i) where
+  module _ (more : k < count) (law : (q : ℕ) → LiteralsHere form s q → meets s held (listed_as form s q) ≡ meets_as form s (listed_as form s p) (listed_as form s q))
+      (q j : ℕ) (b : Bool) (placed : q ≡ place_after form s t p i) (counted : j ≡ item_after form s t p i)
+      (tested : b ≡ each_of (rules_out meets s held) (conditions_from form s t (count - k - 1) q j)) where
+    apart_first : whole ≡ both b (all_apart form s (conditions_from form s t (count - k - 1) q j))
     unfolding all_apart
-    apart_first = so_far ∙ rw (conditions_first form s t left p i more, tested, placed, counted)
+    apart_first =
+        left_first form s t (all_apart form s) whole count k p i left more q j placed counted
+        ∙ rw (tested, out_is meets form s t (listed_as form s p) held law (count - k - 1) q j (left_others form s t (all_apart form s) whole count k p i left more q j placed counted))
 
-    apart_not : b ≡ false → false ≡ whole
+    pub apart_not : b ≡ false → false ≡ whole
     unfolding both
     apart_not e = sym (apart_first ∙ rw e)
 
-    apart_next : b ≡ true → whole ≡ all_apart form s (conditions_from form s t (left - 1) q j)
+    pub apart_next : b ≡ true → Left form s t (all_apart form s) whole (count - (k + 1)) q j
     unfolding both
-    apart_next e = apart_first ∙ rw e
+    apart_next e = left_next form s t (all_apart form s) whole count k p i left more q j placed counted (apart_first ∙ rw e)
 
-  pub apart_done : left ≤ 0 → true ≡ whole
-  unfolding all_apart
-  apart_done h = sym (so_far ∙ rw (conditions_done form s t left p i h))
-
-module _ (whole : Bool) (s t : List ℕ) (left p i : ℕ) (so_far : whole ≡ all_apart Flags s (conditions_from Flags s t left p i)) (more : 0 < left) (held : State) (q j : ℕ) (b : Bool)
-    (told : held ≡ state_of format (listed s p)) (placed : q ≡ place_after Flags s t p i) (counted : j ≡ item_after Flags s t p i)
-    (tested : b ≡ each_of (rules_out held) (conditions_from Flags s t (left - 1) q j)) where
-  state_tests : b ≡ each_of (rules_out_as Flags s (listed s p)) (conditions_from Flags s t (left - 1) q j)
-  unfolding rules_out_as
-  state_tests = tested ∙ rw told
-
-  pub flags_apart_not : b ≡ false → false ≡ whole
-  flags_apart_not = apart_not Flags whole s t left p i so_far more q j b placed counted state_tests
-
-  pub flags_apart_next : b ≡ true → whole ≡ all_apart Flags s (conditions_from Flags s t (left - 1) q j)
-  flags_apart_next = apart_next Flags whole s t left p i so_far more q j b placed counted state_tests
-
-module _ (whole : Bool) (s t : List ℕ) (left p i : ℕ) (so_far : whole ≡ all_apart Valued s (conditions_from Valued s t left p i)) (more : 0 < left) (here : BranchesHere Valued s t left p i)
-    (few : FewValues s) (held : List ℕ) (q j : ℕ) (b : Bool) (told : Allows s (listed_as Valued s p) held) (placed : q ≡ place_after Valued s t p i) (counted : j ≡ item_after Valued s t p i)
-    (tested : b ≡ each_of (sets_rule_out s held) (conditions_from Valued s t (left - 1) q j)) where
-  sets_tests : b ≡ each_of (rules_out_as Valued s (listed_as Valued s p)) (conditions_from Valued s t (left - 1) q j)
-  sets_tests = tested ∙ sets_are s t (listed_as Valued s p) held told few (left - 1) q j (branches_next Valued s t left p i more here q j placed counted)
-
-  pub values_apart_not : b ≡ false → false ≡ whole
-  values_apart_not = apart_not Valued whole s t left p i so_far more q j b placed counted sets_tests
-
-  pub values_apart_next : b ≡ true → whole ≡ all_apart Valued s (conditions_from Valued s t (left - 1) q j)
-  values_apart_next = apart_next Valued whole s t left p i so_far more q j b placed counted sets_tests
-
--- ONE FORM for the other.
-module _ (form to : Form) (is : form ≡ to) (s t : List ℕ) (left p i : ℕ) where
-  pub branches_as : BranchesHere form s t left p i → BranchesHere to s t left p i
-  branches_as h = rw (sym is) h
-
-  pub apart_as : (r : Bool) → r ≡ all_apart to s (conditions_from to s t left p i) → r ≡ all_apart form s (conditions_from form s t left p i)
-  apart_as r h = rw is h
+pub apart_done : (form : Form) (s t : List ℕ) (whole : Bool) (count k p i : ℕ) → Left form s t (all_apart form s) whole (count - k) p i → count ≤ k → true ≡ whole
+unfolding all_apart
+apart_done form s t whole count k p i left h = sym (left.same ∙ rw (conditions_done form s t (count - k) p i (omega arith)))
 
 -- ONE ITEM.
 module _ (form : Form) (s t : List ℕ) (i p : ℕ) where
@@ -174,12 +137,12 @@ module _ (form : Form) (s t : List ℕ) where
   pub overlap_starts : (count : ℕ) → found (first_overlap form s t count 0) ≡ found (first_overlap form s t (count - 0) 0)
   overlap_starts count = let same : count - 0 ≡ count = omega arith in rw same
 
-  module _ (whole : Found) (count i : ℕ) (so_far : whole ≡ found (first_overlap form s t (count - i) i)) where
+  module _ (whole : Option ℕ) (count i : ℕ) (so_far : whole ≡ found (first_overlap form s t (count - i) i)) where
     module _ (more : i < count) (p : ℕ) (b : Bool) (placed : p ≡ get_or t (0 + i) 0) (tested : b ≡ item_apart form s t i p) where
       test_is : item_apart form s t i (get_or t (0 + i) 0) ≡ b
       test_is = sym (tested ∙ ap (item_apart form s t i) placed)
 
-      pub overlap_here : b ≡ false → At p ≡ whole
+      pub overlap_here : b ≡ false → Some p ≡ whole
       unfolding found
       overlap_here e = sym (so_far ∙ ap found (overlap_first (count - i) i (omega (arith, more)) ∙ pick_false _ _ _ (test_is ∙ e)) ∙ rw placed)
 
@@ -188,6 +151,6 @@ module _ (form : Form) (s t : List ℕ) where
           let less : count - (i + 1) ≡ count - i - 1 = omega arith in
           so_far ∙ ap found (overlap_first (count - i) i (omega (arith, more)) ∙ pick_true _ _ _ (test_is ∙ e)) ∙ rw less
 
-    pub overlap_done : count ≤ i → Nowhere ≡ whole
+    pub overlap_done : count ≤ i → None ≡ whole
     unfolding found
     overlap_done h = sym (so_far ∙ ap found (overlap_none (count - i) i (omega (arith, h))))

@@ -1,5 +1,6 @@
 pub mod FlagClashes
 pub mod ValueClashes
+pub mod Clashes
 pub mod Laws16
 pub mod AgreeLaws
 pub mod Laws17

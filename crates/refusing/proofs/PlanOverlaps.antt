@@ -7,21 +7,23 @@ use mathlib.Core.List.{List, [], ◌∷◌}
 use mathlib.Core.Logic.{inl, inr}
 use lib.ListN.{length, get_or}
 use borrow.Author.Tests.{eq-eqb}
+use Rattle.std.specs.Prelude.{Ok}
+use Rattle.parsing.specs.Read.{Numbered}
+use Rattle.std.specs.Prelude.{Option}
 use Rattle.meaning.specs.Tests.{both, fails, pick, each_of, Has}
 use Rattle.meaning.specs.Limits.{format, all_literals}
 use Rattle.meaning.specs.Literals.{exclusive}
 use Rattle.meaning.specs.Requests.{Sequence, done, item, Item, act, branching, Branches, none, branch}
 use Rattle.meaning.specs.Refusals.{failing_at, failing_below, failing_in, Found, nowhere, at, or_else, conditions_of, all_exclusive, overlap_in}
-use Rattle.meaning.specs.States.{state_of}
 use Rattle.meaning.proofs.TestLaws.{pick_true}
 use Rattle.meaning.proofs.RefusalLaws.{exclusive_sym}
 use Rattle.meaning.proofs.ToldLaws.{Clear}
 use Rattle.reading.specs.Listed.{holds_as, span}
 use Rattle.reading.specs.Planned.{items_of, items_in, items_under, bytes_of, plan_noted, noting_met, outcome_met}
 use Rattle.finding.specs.Places.{found}
-use Rattle.refusing.specs.Refusal18.{rules_out, rules_out_as, all_apart, item_apart, first_overlap, exclusive_as, OverlapFound}
+use Rattle.refusing.specs.Refusal18.{rules_out_as, all_apart, item_apart, first_overlap, exclusive_as, OverlapFound}
 use Rattle.finding.specs.PlansHeld.{Opened, BranchWritten, Written, ItemWritten, BranchesWritten, Kept, ItemKept, BranchesKept, PlanHeld}
-use Rattle.finding.specs.declared.places.Found as Code
+use Rattle.valuing.specs.Meets.{meets_as}
 use Rattle.refusing.proofs.Laws18.{overlap_first, item_other}
 use Rattle.refusing.proofs.FlagClashes.{possible_each}
 use Rattle.finding.proofs.PlanHere.{listed_below, conditions_are, clear_of}
@@ -33,8 +35,6 @@ use Rattle.finding.specs.LinesHere.{Consistent}
 use Rattle.meaning.specs.Reading.{got, Met, plan_at, literals_in}
 use Rattle.meaning.proofs.SettledLaws.{got_same}
 use Rattle.parsing.proofs.LineReaderLaws.{counted_flags}
-use Rattle.parsing.specs.declared.bytes.Read.{Read}
-use Rattle.parsing.specs.declared.bytes.Read.TheVariants.{Value}
 use Rattle.reading.specs.Noted.{effect_lines}
 use Rattle.reading.proofs.NotingLaws.{with_items, met_value}
 use Rattle.finding.proofs.WrittenLaws.{plan_items, plan_held}
@@ -45,15 +45,15 @@ unfolding fails
 fails_twice true = refl
 fails_twice false = refl
 
-out_is : (c : List ℕ) → Clear format c → (d : List ℕ) → rules_out (state_of format c) d ≡ exclusive d c
-unfolding rules_out holds_as exclusive
-out_is c clear d = ap fails (possible_each c clear d) ∙ fails_twice (exclusive d c)
+out_is : (s c : List ℕ) → Clear format c → (d : List ℕ) → rules_out_as Flags s c d ≡ exclusive d c
+unfolding rules_out_as meets_as holds_as exclusive
+out_is s c clear d = ap fails (possible_each c clear d) ∙ fails_twice (exclusive d c)
 
 pub apart_is : (s : List ℕ) (cs : List (List ℕ)) → ((c : List ℕ) → Has cs c → Clear format c) → all_apart Flags s cs ≡ all_exclusive cs
-unfolding all_apart all_exclusive rules_out_as
+unfolding all_apart all_exclusive
 apart_is s [] clear = refl
 apart_is s (c ∷ cs) clear =
-    let first : rules_out (state_of format c) ≡ exclusive c = fun_ext (λ (d : List ℕ). out_is c (clear c (inl refl)) d ∙ exclusive_sym d c) in
+    let first : rules_out_as Flags s c ≡ exclusive c = fun_ext (λ (d : List ℕ). out_is s c (clear c (inl refl)) d ∙ exclusive_sym d c) in
     rw (first, apart_is s cs (λ d h. clear d (inr h)))
 
 written_clear : (s : List ℕ) (p : ℕ) (c : List ℕ) (b : Sequence ℕ) → BranchWritten Flags s p c b → Clear format c
@@ -72,7 +72,7 @@ each_alike f g [] same = refl
 each_alike f g (c ∷ cs) same = ap₂ both (same c (inl refl)) (each_alike f g cs (λ d has. same d (inr has)))
 
 values_apart : (s : List ℕ) (cs : List (List ℕ)) → ((c : List ℕ) → Has cs c → Consistent Valued s c) → all_apart Valued s cs ≡ Values.all_exclusive (literals_in s) cs
-unfolding all_apart Values.all_exclusive rules_out_as
+unfolding all_apart Values.all_exclusive rules_out_as meets_as
 values_apart s [] leaves = refl
 values_apart s (c ∷ cs) leaves =
     ap₂ both
@@ -159,12 +159,12 @@ module _ (form : Form) (s t : List ℕ) where
       ap (λ (n : ℕ). first_overlap form s t n 0) all ∙ sequence_first b 0 0 held.written held.kept ∙ or_else_none (failing_in (exclusive_as form s) b)
 
   module _ (count : ℕ) where
-    pub overlap_found : (r : Code.Found) → r ≡ found (first_overlap form s t count 0) → OverlapFound form s t count r
+    pub overlap_found : (r : Option ℕ) → r ≡ found (first_overlap form s t count 0) → OverlapFound form s t count r
     overlap_found r is = record { holds = λ b held items. is ∙ ap found (plan_overlap b count held items) }
 
 -- What is found in a plan that was read is its own first overlap.
-module _ (n m : ℕ) (s : List ℕ) (small : n ≤ format.fluents) (few : m ≤ format.actions) (p : ℕ) (t u : List ℕ) (r : Read) (count e : ℕ) (room : effect_lines ≤ length t) (left : outcome_met r u ≡ noting_met (plan_noted Flags p t) (plan_at format Flags n m s p)) (is : r ≡ Value count e) where
-  pub overlap_left : (f : Code.Found) → OverlapFound Flags s u count f → (x : Met (Sequence ℕ)) (q : ℕ) → plan_at format Flags n m s p ≡ got x q → f ≡ found (overlap_in x.value)
+module _ (n m : ℕ) (s : List ℕ) (small : n ≤ format.fluents) (few : m ≤ format.actions) (p : ℕ) (t u : List ℕ) (r : Numbered) (count e : ℕ) (room : effect_lines ≤ length t) (left : outcome_met r u ≡ noting_met (plan_noted Flags p t) (plan_at format Flags n m s p)) (is : r ≡ Ok (count, e)) where
+  pub overlap_left : (f : Option ℕ) → OverlapFound Flags s u count f → (x : Met (Sequence ℕ)) (q : ℕ) → plan_at format Flags n m s p ≡ got x q → f ≡ found (overlap_in x.value)
   overlap_left f all x q read =
       let w = met_value (plan_noted Flags p t) (plan_at format Flags n m s p) r u count e left is in
       let same : with_items w.0 count ≡ x = got_same (sym w.1 ∙ read) in

@@ -6,6 +6,11 @@ use mathlib.Core.List.{List, []}
 use lib.ListN.{length, get_or}
 use mir.Syntax.{w8, w64}
 use mir.Val.{Fits}
+use Rattle.std.specs.Prelude.{Ok, Err}
+use Rattle.parsing.specs.declared.faults.Fault.{Fault}
+use Rattle.parsing.specs.declared.faults.Refusal.TheVariants.{ContradictoryEffects, EffectAndKnowledge, NotExclusive}
+use Rattle.reading.proofs.RequestLaws.{passed_outcome}
+use Rattle.std.specs.Prelude.{Option, None, Some}
 use Rattle.meaning.specs.Limits.{format}
 use Rattle.meaning.specs.Requests.{Effect, Knowledge, Table, Request}
 use Rattle.meaning.specs.declared.Form.{Form}
@@ -15,11 +20,7 @@ use Rattle.meaning.specs.Guards.{GuardedRequest, read_guarded, settled_guarded}
 use Rattle.meaning.specs.Refusals
 use Rattle.meaning.specs.Refusals.{nowhere, at, first_against, contradiction_in, mixed_in, refuse, settled}
 use Rattle.meaning.specs.Valued.{settled_values}
-use Rattle.parsing.specs.declared.lists.Passed.{Passed}
-use Rattle.parsing.specs.declared.lists.Passed.TheVariants.{To, Fault as Stop}
-use Rattle.finding.specs.declared.places.Found.{Found}
-use Rattle.finding.specs.declared.places.Found.TheVariants.{Nowhere, At}
-use Rattle.parsing.specs.Read.{passed}
+use Rattle.parsing.specs.Read.{Passed, over, stopped, passed}
 use Rattle.parsing.proofs.ListLaws.{passed_to, passed_stop}
 use Rattle.reading.specs.Noted.{noting, outcome, table_noted, plan_slot, items_slot, effects_slot, knowledge_slot}
 use Rattle.reading.specs.Planned.{items_of}
@@ -90,8 +91,8 @@ module _ (form : Form) (s t : List ℕ) (here : TableHere form s t) where
     pub values_16 : Counted form s
     values_16 = whole.values
 
-    module _ (f : Found) (answer : f ≡ found (first_against (contradictory_as form s) [] (effects_in form s t 0 count))) where
-      abbrev sought : List Effect → Found
+    module _ (f : Option ℕ) (answer : f ≡ found (first_against (contradictory_as form s) [] (effects_in form s t 0 count))) where
+      abbrev sought : List Effect → Option ℕ
       sought es = found (first_against (contradictory_as form s) [] es)
 
       sought_16 : f ≡ found (contradiction_as form s (table_in form s))
@@ -101,11 +102,11 @@ module _ (form : Form) (s t : List ℕ) (here : TableHere form s t) where
           ∙ ap sought (effects_are s here.bytes (table_in form s) here.table_end whole t here.noted)
           ∙ ap found (against_as form s)
 
-      pub at_16 : (e p : ℕ) → f ≡ At p → Stop 16 p ≡ passed (table_settled_as form s (table_in form s) e)
+      pub at_16 : (e p : ℕ) → f ≡ Some p → (why : Fault) → why ≡ record { refusal = ContradictoryEffects; place = p } → over (Err why) ≡ passed (table_settled_as form s (table_in form s) e)
       unfolding refuse passed
-      at_16 e p g = rw (settled_as form s (table_in form s) e, found_at (contradiction_as form s (table_in form s)) f sought_16 p g)
+      at_16 e p g why is-why = rw (is-why, settled_as form s (table_in form s) e, found_at (contradiction_as form s (table_in form s)) f sought_16 p g)
 
-      pub past_16 : (e : ℕ) (r : Passed) → f ≡ Nowhere → r ≡ passed (table_unmixed (table_in form s) e) → r ≡ passed (table_settled_as form s (table_in form s) e)
+      pub past_16 : (e : ℕ) (r : Passed) → f ≡ None → over r ≡ passed (table_unmixed (table_in form s) e) → over r ≡ passed (table_settled_as form s (table_in form s) e)
       unfolding refuse
       past_16 e r g h = h ∙ ap passed (rw (settled_as form s (table_in form s) e, found_none (contradiction_as form s (table_in form s)) f sought_16 g))
 
@@ -128,18 +129,18 @@ module _ (form : Form) (s t : List ℕ) (here : TableHere form s t) where
     pub stand_17 : (start : ℕ) → start ≡ e - 2 * count → KnowledgeHere s start count
     stand_17 start e₁ = rw e₁ lines_17.1
 
-    module _ (start : ℕ) (starts : start ≡ e - 2 * count) (f : Found) (answer : MixedFound s t start count f) where
+    module _ (start : ℕ) (starts : start ≡ e - 2 * count) (f : Option ℕ) (answer : MixedFound s t start count f) where
       sought_17 : f ≡ found (mixed_in (table_in form s).effects (table_in form s).knowledge)
       sought_17 =
           answer.holds (table_in form s).effects (acting s here.bytes (table_in form s) here.table_end whole t here.noted)
           ∙ ap (λ (p : ℕ). found (mixed_in (table_in form s).effects (knowledge_in s p 0 count))) starts
           ∙ ap (λ (ks : List Knowledge). found (mixed_in (table_in form s).effects ks)) lines_17.0
 
-      pub at_17 : (p : ℕ) → f ≡ At p → Stop 17 p ≡ passed (table_unmixed (table_in form s) e)
+      pub at_17 : (p : ℕ) → f ≡ Some p → (why : Fault) → why ≡ record { refusal = EffectAndKnowledge; place = p } → over (Err why) ≡ passed (table_unmixed (table_in form s) e)
       unfolding table_unmixed refuse passed
-      at_17 p g = rw (found_at (mixed_in (table_in form s).effects (table_in form s).knowledge) f sought_17 p g)
+      at_17 p g why is-why = rw (is-why, found_at (mixed_in (table_in form s).effects (table_in form s).knowledge) f sought_17 p g)
 
-      pub none_17 : f ≡ Nowhere → To e ≡ passed (table_unmixed (table_in form s) e)
+      pub none_17 : f ≡ None → over (Ok e) ≡ passed (table_unmixed (table_in form s) e)
       unfolding table_unmixed refuse passed
       none_17 g = rw (found_none (mixed_in (table_in form s).effects (table_in form s).knowledge) f sought_17 g)
 
@@ -193,14 +194,14 @@ module _ (form : Form) (s : List ℕ) (bytes : (i : ℕ) → Fits w8 (get_or s i
       unfolding past_all past_18 next
       settled_behind = rw (here.reads, same_table) (behind_as x.table plan (refuse 18 (overlap_as form s x.plan) (λ _. got x e)) form s)
 
-      module _ (first : Passed) (asked : first ≡ passed (table_settled_as form s (table_in form s) plan)) where
-        pub refused_first : (k p : ℕ) → first ≡ Stop k p → Stop k p ≡ passed (past_all form s e)
+      module _ (first : Passed) (asked : over first ≡ passed (table_settled_as form s (table_in form s) plan)) where
+        pub refused_first : (why : Fault) → first ≡ Err why → over (Err why) ≡ passed (past_all form s e)
         unfolding next passed
-        refused_first k p stops = rw (settled_behind, passed_stop (table_settled_as form s (table_in form s) plan) k p (sym asked ∙ stops))
+        refused_first why stops = rw (settled_behind, passed_stop (table_settled_as form s (table_in form s) plan) why (sym asked ∙ ap over stops))
 
-        pub refused_then : (q : ℕ) (r : Passed) → first ≡ To q → r ≡ passed (past_18 form s e) → r ≡ passed (past_all form s e)
+        pub refused_then : (q : ℕ) (r : Passed) → first ≡ Ok q → over r ≡ passed (past_18 form s e) → over r ≡ passed (past_all form s e)
         unfolding next
-        refused_then q r goes h = h ∙ ap passed (rw (settled_behind, (passed_to (table_settled_as form s (table_in form s) plan) q (sym asked ∙ goes)).1))
+        refused_then q r goes h = h ∙ ap passed (rw (settled_behind, (passed_to (table_settled_as form s (table_in form s) plan) q (sym asked ∙ ap over goes)).1))
 
   -- 18.
   module _ (count : ℕ) (is : count ≡ get_or t items_slot 0) where
@@ -218,23 +219,23 @@ module _ (form : Form) (s : List ℕ) (bytes : (i : ℕ) → Fits w8 (get_or s i
     pub stand_18 : SomePlan form s t count
     stand_18 = record { plan = x.plan; held = held_18; items = count_18 }
 
-    module _ (f : Found) (answer : OverlapFound form s t count f) (e : ℕ) where
+    module _ (f : Option ℕ) (answer : OverlapFound form s t count f) (e : ℕ) where
       sought_18 : f ≡ found (overlap_as form s x.plan)
       sought_18 = answer.holds x.plan held_18 count_18
 
-      pub at_18 : (p : ℕ) → f ≡ At p → Stop 18 p ≡ passed (past_18 form s e)
+      pub at_18 : (p : ℕ) → f ≡ Some p → (why : Fault) → why ≡ record { refusal = NotExclusive; place = p } → over (Err why) ≡ passed (past_18 form s e)
       unfolding past_18 next refuse passed
-      at_18 p g = rw (here.reads, found_at (overlap_as form s x.plan) f sought_18 p g)
+      at_18 p g why is-why = rw (is-why, here.reads, found_at (overlap_as form s x.plan) f sought_18 p g)
 
-      pub none_18 : f ≡ Nowhere → To e ≡ passed (past_18 form s e)
+      pub none_18 : f ≡ None → over (Ok e) ≡ passed (past_18 form s e)
       unfolding past_18 next refuse passed
       none_18 g = rw (here.reads, found_none (overlap_as form s x.plan) f sought_18 g)
 
 -- SETTLED, of whatever has a request in it. The notes are the same at every answer.
 module _ {A : Type 0} (form : Form) (note : A → List ℕ → List ℕ) (t u : List ℕ) where
   alike : (x : Request) (y : A) (e : ℕ) → u ≡ note y t → (f h k : Refusals.Found)
-      → outcome (passed (refuse 16 f (λ _. refuse 17 h (λ _. refuse 18 k (λ _. got x e))))) u ≡ noting note (refuse 16 f (λ _. refuse 17 h (λ _. refuse 18 k (λ _. got y e)))) t
-  unfolding outcome passed noting next refuse
+      → next (refuse 16 f (λ _. refuse 17 h (λ _. refuse 18 k (λ _. got x e)))) (λ _ i. got u i) ≡ noting note (refuse 16 f (λ _. refuse 17 h (λ _. refuse 18 k (λ _. got y e)))) t
+  unfolding noting next refuse
   alike x y e noted (at i) h k = refl
   alike x y e noted nowhere (at i) k = refl
   alike x y e noted nowhere nowhere (at i) = refl
@@ -244,64 +245,64 @@ module _ {A : Type 0} (form : Form) (note : A → List ℕ → List ℕ) (t u : 
     abbrev past : Got A
     past = next g λ y e. past_as form s (of y) (got y e)
 
-    stopped : (k q : ℕ) (v : List ℕ) → g ≡ fault k q → outcome (Stop k q) v ≡ noting note past t
+    read_stops : (why : Fault) (v : List ℕ) → g ≡ stopped why → outcome (Err why) v ≡ noting note past t
     unfolding noting next outcome
-    stopped k q v is = rw is
+    read_stops why v is = rw is
 
-    went : (y : A) (e q : ℕ) → g ≡ got y e → u ≡ note y t → sections_as form s 0 ≡ got (of y) q → (r : Passed) → r ≡ passed (past_all form s e) → outcome r u ≡ noting note past t
+    went : (y : A) (e q : ℕ) → g ≡ got y e → u ≡ note y t → sections_as form s 0 ≡ got (of y) q → (r : Passed) → over r ≡ passed (past_all form s e) → outcome r u ≡ noting note past t
     unfolding past_all next
     went y e q is noted reads r h =
-        ap (λ (a : Passed). outcome a u) h
+        passed_outcome (past_all form s e) r u h
         ∙ rw (reads, is) (alike (of y) y e noted (contradiction_as form s (of y).table) (mixed_in (of y).table.effects (of y).table.knowledge) (overlap_as form s (of y).plan))
 
 -- Without guards.
 module _ (s t u : List ℕ) (empty : t ≡ blank) (all : Passed) (read : outcome all u ≡ noting (request_noted Flags) (read_request format Flags s) t) where
-  pub settle_fault : (k q : ℕ) (v : List ℕ) → all ≡ Stop k q → outcome (Stop k q) v ≡ noting (request_noted Flags) (settled format s) t
+  pub settle_fault : (why : Fault) (v : List ℕ) → all ≡ Err why → outcome (Err why) v ≡ noting (request_noted Flags) (settled format s) t
   unfolding settled
-  settle_fault k q v is = stopped Flags (request_noted Flags) t u s (λ x. x) (read_request format Flags s) k q v (noting_fault (request_noted Flags) (read_request format Flags s) all t u read k q is)
+  settle_fault why v is = read_stops Flags (request_noted Flags) t u s (λ x. x) (read_request format Flags s) why v (noting_fault (request_noted Flags) (read_request format Flags s) all t u read why is)
 
-  module _ (e : ℕ) (is : all ≡ To e) where
+  module _ (e : ℕ) (is : all ≡ Ok e) where
     read_got : (x : Request) × (read_request format Flags s ≡ got x e) × (u ≡ request_noted Flags x t)
     read_got = noting_got (request_noted Flags) (read_request format Flags s) all t u read e is
 
     pub settle_here : ReadHere Flags s u
     settle_here = plain_here s u Flags read_got.0 e read_got.1 (read_got.2 ∙ ap (request_noted Flags read_got.0) empty)
 
-    pub settle_there : (r : Passed) → r ≡ passed (past_all Flags s e) → outcome r u ≡ noting (request_noted Flags) (settled format s) t
+    pub settle_there : (r : Passed) → over r ≡ passed (past_all Flags s e) → outcome r u ≡ noting (request_noted Flags) (settled format s) t
     unfolding settled
     settle_there = went Flags (request_noted Flags) t u s (λ x. x) (read_request format Flags s) read_got.0 e e read_got.1 read_got.2 (plain_read s Flags read_got.0 e read_got.1).1
 
 -- With values.
 module _ (s t u : List ℕ) (empty : t ≡ blank) (all : Passed) (read : outcome all u ≡ noting (request_noted Valued) (read_request format Valued s) t) where
-  pub values_fault : (k q : ℕ) (v : List ℕ) → all ≡ Stop k q → outcome (Stop k q) v ≡ noting (request_noted Valued) (settled_values format s) t
+  pub values_fault : (why : Fault) (v : List ℕ) → all ≡ Err why → outcome (Err why) v ≡ noting (request_noted Valued) (settled_values format s) t
   unfolding settled_values
-  values_fault k q v is = stopped Valued (request_noted Valued) t u s (λ x. x) (read_request format Valued s) k q v (noting_fault (request_noted Valued) (read_request format Valued s) all t u read k q is)
+  values_fault why v is = read_stops Valued (request_noted Valued) t u s (λ x. x) (read_request format Valued s) why v (noting_fault (request_noted Valued) (read_request format Valued s) all t u read why is)
 
-  module _ (e : ℕ) (is : all ≡ To e) where
+  module _ (e : ℕ) (is : all ≡ Ok e) where
     values_got : (x : Request) × (read_request format Valued s ≡ got x e) × (u ≡ request_noted Valued x t)
     values_got = noting_got (request_noted Valued) (read_request format Valued s) all t u read e is
 
     pub values_here : ReadHere Valued s u
     values_here = plain_here s u Valued values_got.0 e values_got.1 (values_got.2 ∙ ap (request_noted Valued values_got.0) empty)
 
-    pub values_there : (r : Passed) → r ≡ passed (past_all Valued s e) → outcome r u ≡ noting (request_noted Valued) (settled_values format s) t
+    pub values_there : (r : Passed) → over r ≡ passed (past_all Valued s e) → outcome r u ≡ noting (request_noted Valued) (settled_values format s) t
     unfolding settled_values
     values_there = went Valued (request_noted Valued) t u s (λ x. x) (read_request format Valued s) values_got.0 e e values_got.1 values_got.2 (plain_read s Valued values_got.0 e values_got.1).1
 
 -- With guards.
 module _ (s t u : List ℕ) (empty : t ≡ blank) (all : Passed) (read : outcome all u ≡ noting guarded_noted (read_guarded format s) t) where
-  pub guarded_fault : (k q : ℕ) (v : List ℕ) → all ≡ Stop k q → outcome (Stop k q) v ≡ noting guarded_noted (settled_guarded format s) t
+  pub guarded_fault : (why : Fault) (v : List ℕ) → all ≡ Err why → outcome (Err why) v ≡ noting guarded_noted (settled_guarded format s) t
   unfolding settled_guarded
-  guarded_fault k q v is = stopped Flags guarded_noted t u s (λ g. g.request) (read_guarded format s) k q v (noting_fault guarded_noted (read_guarded format s) all t u read k q is)
+  guarded_fault why v is = read_stops Flags guarded_noted t u s (λ g. g.request) (read_guarded format s) why v (noting_fault guarded_noted (read_guarded format s) all t u read why is)
 
-  module _ (e : ℕ) (is : all ≡ To e) where
+  module _ (e : ℕ) (is : all ≡ Ok e) where
     guarded_got : (g : GuardedRequest) × (read_guarded format s ≡ got g e) × (u ≡ guarded_noted g t)
     guarded_got = noting_got guarded_noted (read_guarded format s) all t u read e is
 
     pub guarded_stands : ReadHere Flags s u
     guarded_stands = guarded_here s u guarded_got.0 e guarded_got.1 (guarded_got.2 ∙ ap (guarded_noted guarded_got.0) empty)
 
-    pub guarded_there : (r : Passed) → r ≡ passed (past_all Flags s e) → outcome r u ≡ noting guarded_noted (settled_guarded format s) t
+    pub guarded_there : (r : Passed) → over r ≡ passed (past_all Flags s e) → outcome r u ≡ noting guarded_noted (settled_guarded format s) t
     unfolding settled_guarded
     guarded_there =
         went Flags guarded_noted t u s (λ g. g.request) (read_guarded format s) guarded_got.0 e (guards_place guarded_got.0.request) guarded_got.1 guarded_got.2

@@ -1,17 +1,15 @@
 -- 16: which effects share a bucket, as the search for contradictory ones finds them, and the executability lines that agree with two of them.
 use Rattle.std.specs.Prelude.{ℕ, zero, suc, ◌+◌, ◌*◌, ◌/◌, ◌%◌, ◌≤◌, ◌<◌, ◌≡◌, Bool, List, [], ◌∷◌, length, get_or, set, eqb}
 use Rattle.meaning.specs.Limits.{format}
-use Rattle.meaning.specs.Tests.{both, fails, some_of, each_of}
+use Rattle.meaning.specs.Tests.{both, fails, some_of}
 use Rattle.meaning.specs.Requests.{Effect, Executability, Table}
 use Rattle.meaning.specs.Lines.{executability_of}
-use Rattle.meaning.specs.States.{State, possible}
 use Rattle.meaning.specs.Refusals.{contradictory}
 use Rattle.meaning.specs.Reading.{literals_in}
 use Rattle.meaning.specs.Values
 use Rattle.meaning.specs.declared.Form.{Form}
 use Rattle.meaning.specs.declared.Form.TheVariants.{Flags, Valued}
 use Rattle.reading.specs.Noted.{line_numbers}
-use Rattle.valuing.specs.Valuing as Valuing
 use Rattle.finding.specs.LinesHere.{effect_from, place_in}
 use Rattle.finding.specs.TablesHere.{table_in}
 
@@ -25,16 +23,15 @@ unfoldable pub effects_before : Form → List ℕ → List ℕ → ℕ → List 
 effects_before form s t zero = []
 effects_before form s t (suc k) = effect_from form s (place_in t (k + 1)) ∷ effects_before form s t k
 
--- The body is possible in both states, or agrees with both sets.
-unfoldable pub agreeing : (one other : State) → (body : List ℕ) → Bool
-agreeing one other b = both (each_of (possible one) b) (each_of (possible other) b)
+-- The body is possible beside both.
+unfoldable pub agreeing : {Held : Type 0} → (meets : List ℕ → Held → List ℕ → Bool) → (s : List ℕ) → (one other : Held) → (body : List ℕ) → Bool
+agreeing meets s one other b = both (meets s one b) (meets s other b)
 
-unfoldable pub agreeing_sets : (s one other : List ℕ) → (body : List ℕ) → Bool
-agreeing_sets s one other b = both (Valuing.agreeing s one b) (Valuing.agreeing s other b)
-
--- The effects at p and q are of one action and set two values of one fluent.
-unfoldable pub sets_apart : (s : List ℕ) (p q : ℕ) → Bool
-sets_apart s p q =
+-- The effects at p and q are of one action, and set two literals of one fluent, or two values of it.
+unfoldable pub sets_apart : Form → (s : List ℕ) (p q : ℕ) → Bool
+sets_apart Flags s p q =
+    both (eqb (get_or s p 0) (get_or s q 0)) (both (eqb (get_or s (q + 1) 0 / 2) (get_or s (p + 1) 0 / 2)) (fails (eqb (get_or s (p + 1) 0) (get_or s (q + 1) 0))))
+sets_apart Valued s p q =
     both (eqb (get_or s p 0) (get_or s q 0)) (both (eqb (get_or s (q + 1) 0) (get_or s (p + 1) 0)) (fails (eqb (get_or s (p + 2) 0 / 2) (get_or s (q + 2) 0 / 2))))
 
 -- Some executability line of the action has a body that passes the test.

@@ -1,8 +1,7 @@
 -- 18: the first branching whose conditions are not exclusive.
+use Rattle.std.specs.Prelude.{Option}
 use Rattle.std.specs.Prelude.{ℕ, zero, suc, ◌+◌, ◌≡◌, Bool, true, List, [], ◌∷◌, get_or, eqb}
 use Rattle.meaning.specs.Tests.{both, fails, pick, each_of}
-use Rattle.meaning.specs.Limits.{format}
-use Rattle.meaning.specs.States.{State, state_of}
 use Rattle.meaning.specs.Reading.{literals_in}
 use Rattle.meaning.specs.Refusals.{Found, nowhere, at, all_exclusive, failing_in}
 use Rattle.meaning.specs.Values
@@ -10,26 +9,19 @@ use Rattle.meaning.specs.Requests.{Sequence}
 use Rattle.meaning.specs.declared.Form.{Form}
 use Rattle.meaning.specs.declared.Form.TheVariants.{Flags, Valued}
 use Rattle.reading.specs.Noted.{item_place}
-use Rattle.reading.specs.Listed.{holds_as}
-use Rattle.reading.specs.declared.marks.Test.TheVariants.{Possible}
 use Rattle.reading.specs.Planned.{items_of}
-use Rattle.valuing.specs.Valuing.{agreeing, leaves_beside}
 use Rattle.finding.specs.Places.{found}
-use Rattle.finding.specs.declared.places.Found as Code
 use Rattle.finding.specs.Branches.{conditions_from}
 use Rattle.finding.specs.PlansHeld.{PlanHeld}
+use Rattle.valuing.specs.Meets.{meets_as}
 
--- The state rules out the condition, or the sets do.
-unfoldable pub rules_out : State → List ℕ → Bool
-rules_out held c = fails (each_of (holds_as Possible held) c)
-
-unfoldable pub sets_rule_out : (s sets : List ℕ) → List ℕ → Bool
-sets_rule_out s sets c = fails (agreeing s sets c)
+-- What is held rules out the condition.
+unfoldable pub rules_out : {Held : Type 0} → (meets : List ℕ → Held → List ℕ → Bool) → (s : List ℕ) → Held → List ℕ → Bool
+rules_out meets s held c = fails (meets s held c)
 
 -- What a condition leaves rules out another.
 unfoldable pub rules_out_as : Form → (s one other : List ℕ) → Bool
-rules_out_as Flags s c d = rules_out (state_of format c) d
-rules_out_as Valued s c d = fails (leaves_beside s c d)
+rules_out_as form s c d = fails (meets_as form s c d)
 
 module _ (form : Form) (s : List ℕ) where
   -- Each condition rules out the conditions after it.
@@ -55,5 +47,5 @@ abbrev pub overlap_as : Form → List ℕ → Sequence ℕ → Found
 overlap_as form s = failing_in (exclusive_as form s)
 
 -- What is found is the first overlap of whatever plan with a given number of items is held (FORMAT 4.40).
-pub record OverlapFound (form : Form) (s t : List ℕ) (count : ℕ) (r : Code.Found) : Type 0 where
+pub record OverlapFound (form : Form) (s t : List ℕ) (count : ℕ) (r : Option ℕ) : Type 0 where
   pub holds : (b : Sequence ℕ) → PlanHeld form s t b → items_of b ≡ count → r ≡ found (overlap_as form s b)

@@ -5,7 +5,7 @@ ghost use Rattle.meaning.specs.Reading.{got, table_at};
 ghost use Rattle.meaning.specs.Refusals.{settled};
 ghost use Rattle.meaning.specs.Valued.{settled_values};
 ghost use Rattle.meaning.specs.Guards.{settled_guarded};
-ghost use Rattle.parsing.specs.Read.{passed};
+ghost use Rattle.parsing.specs.Read.{over, passed};
 ghost use Rattle.reading.specs.Noted.{noting, outcome};
 ghost use Rattle.reading.specs.Requested.{request_noted, guarded_noted};
 ghost use Rattle.finding.specs.ReadHere.{ReadHere};
@@ -15,95 +15,86 @@ ghost use Rattle.refusing.specs.Settled.{table_unmixed, table_settled_as, past_1
 use super::refusal_16::contradiction;
 use super::refusal_17::mixed;
 use super::refusal_18::overlap;
-use finding::places::Found;
 use meaning::Form;
-use parsing::limits;
-use parsing::lists::Passed;
-use reader::whole::{read_guarded, read_request, read_values};
+use parsing::faults::{Fault, Refusal};
+use parsing::shapes::{OfFlags, OfValues};
+use reader::whole::{read_guarded, read_request};
 use reading::notes;
 use reading::notes::{Notes, get};
 
 // 17, of a table that ends at e.
-fn mixed_refused(form: Form, s: &[u8], t: &Notes, e: usize) -> Passed
+fn mixed_refused(form: Form, s: &[u8], t: &Notes, e: usize) -> Result<usize, Fault>
     requires table_here { TableHere form s.now t.now }
     requires s_value { table_at format form s.now 0 ≡ got (table_in form s.now) e }
-    ensures { result ≡ passed (table_unmixed (table_in form s.now) e) }
+    ensures { over result ≡ passed (table_unmixed (table_in form s.now) e) }
 {
     let count = get(t, notes::COUNT_OF_KNOWLEDGE);
     let bytes = 2 * count;
     let start = e - bytes;
     match mixed(s, t, start, count) {
-        Found::Nowhere => Passed::To(e),
-        Found::At(p) => Passed::Fault(limits::EFFECT_AND_KNOWLEDGE, p),
+        Some(p) => Err(Refusal::EffectAndKnowledge.at(p)),
+        None => Ok(e),
     }
 }
 
 // 16 and 17, of a table that ends at e. Nothing is asked of a plan.
-pub fn table_refused(form: Form, s: &[u8], t: &Notes, e: usize) -> Passed
+pub fn table_refused(form: Form, s: &[u8], t: &Notes, e: usize) -> Result<usize, Fault>
     requires table_here { TableHere form s.now t.now }
     requires s_value { table_at format form s.now 0 ≡ got (table_in form s.now) e }
-    ensures { result ≡ passed (table_settled_as form s.now (table_in form s.now) e) }
+    ensures { over result ≡ passed (table_settled_as form s.now (table_in form s.now) e) }
 {
     let count = get(t, notes::COUNT_OF_EFFECTS);
     match contradiction(form, s, t, count) {
-        Found::Nowhere => mixed_refused(form, s, t, e),
-        Found::At(p) => Passed::Fault(limits::CONTRADICTORY_EFFECTS, p),
+        Some(p) => Err(Refusal::ContradictoryEffects.at(p)),
+        None => mixed_refused(form, s, t, e),
     }
 }
 
 // 18, of a request that was read up to e.
-fn plan_refused(form: Form, s: &[u8], t: &Notes, e: usize) -> Passed
+fn plan_refused(form: Form, s: &[u8], t: &Notes, e: usize) -> Result<usize, Fault>
     requires { ReadHere form s.now t.now }
-    ensures { result ≡ passed (past_18 form s.now e) }
+    ensures { over result ≡ passed (past_18 form s.now e) }
 {
     let count = get(t, notes::ITEMS);
     match overlap(form, s, t, count) {
-        Found::Nowhere => Passed::To(e),
-        Found::At(p) => Passed::Fault(limits::NOT_EXCLUSIVE, p),
+        Some(p) => Err(Refusal::NotExclusive.at(p)),
+        None => Ok(e),
     }
 }
 
 // 16 to 18, of a request that was read up to e. Its table ends where its plan starts.
-fn refused(form: Form, s: &[u8], t: &Notes, e: usize) -> Passed
+fn refused(form: Form, s: &[u8], t: &Notes, e: usize) -> Result<usize, Fault>
     requires { ReadHere form s.now t.now }
-    ensures { result ≡ passed (past_all form s.now e) }
+    ensures { over result ≡ passed (past_all form s.now e) }
 {
     let plan = get(t, notes::PLAN);
-    match table_refused(form, s, t, plan) {
-        Passed::To(_) => plan_refused(form, s, t, e),
-        Passed::Fault(k, p) => Passed::Fault(k, p),
-    }
+    table_refused(form, s, t, plan)?;
+    plan_refused(form, s, t, e)
 }
 
 // A guarded request settled: read without a fault, and past 16, 17 and 18. The notes hold nothing before.
-pub fn settle_guarded(s: &[u8], t: &mut Notes) -> Passed
+pub fn settle_guarded(s: &[u8], t: &mut Notes) -> Result<usize, Fault>
     requires { t.old ≡ blank }
     ensures { outcome result t.new ≡ noting guarded_noted (settled_guarded format s.now) t.old }
 {
-    match read_guarded(s, t) {
-        Passed::To(e) => refused(Form::Flags, s, t, e),
-        Passed::Fault(k, q) => Passed::Fault(k, q),
-    }
+    let end = read_guarded(s, t)?;
+    refused(Form::Flags, s, t, end)
 }
 
 // A request settled: read without a fault, and past 16, 17 and 18. The notes hold nothing before.
-pub fn settle(s: &[u8], t: &mut Notes) -> Passed
+pub fn settle(s: &[u8], t: &mut Notes) -> Result<usize, Fault>
     requires { t.old ≡ blank }
     ensures { outcome result t.new ≡ noting (request_noted Flags) (settled format s.now) t.old }
 {
-    match read_request(s, t) {
-        Passed::To(e) => refused(Form::Flags, s, t, e),
-        Passed::Fault(k, q) => Passed::Fault(k, q),
-    }
+    let end = read_request::<OfFlags>(s, t)?;
+    refused(Form::Flags, s, t, end)
 }
 
 // A request with values settled in the same way. The notes hold nothing before.
-pub fn settle_values(s: &[u8], t: &mut Notes) -> Passed
+pub fn settle_values(s: &[u8], t: &mut Notes) -> Result<usize, Fault>
     requires { t.old ≡ blank }
     ensures { outcome result t.new ≡ noting (request_noted Valued) (settled_values format s.now) t.old }
 {
-    match read_values(s, t) {
-        Passed::To(e) => refused(Form::Valued, s, t, e),
-        Passed::Fault(k, q) => Passed::Fault(k, q),
-    }
+    let end = read_request::<OfValues>(s, t)?;
+    refused(Form::Valued, s, t, end)
 }

@@ -3,13 +3,9 @@
 #![tactic(auto)]
 
 use parsing::limits;
-use programs::{
-    Asked, Input, REQUEST_ROOM, budget_asked, fail, put, put_line, put_number, read_all,
-    stack_is_enough,
-};
+use programs::{Numbers, Program};
 use std::io;
-use std::io::{ErrorKind, Write};
-use std::rt::Files;
+use std::io::ErrorKind;
 use verdicts::answers;
 use verdicts::releasing::{ROW_NUMBERS, plans, release};
 
@@ -17,21 +13,11 @@ use verdicts::releasing::{ROW_NUMBERS, plans, release};
 // another length is answered by 9.
 const ROW_ROOM: usize = ROW_NUMBERS * limits::PLANS;
 
-// Number i of a row, and what stands behind it: after each four the line ends.
-fn put_at(rt: &impl Print, i: usize, number: u32) -> io::Result<()> {
-    put_number(rt, number as u64)?;
-    if i % ROW_NUMBERS == ROW_NUMBERS - 1 {
-        return put(rt, b"\n");
-    }
-    put(rt, b" ")
-}
-
 // A line for each plan.
 fn put_row(rt: &impl Print, row: &[u32]) -> io::Result<()> {
-    let mut i = 0;
-    while i < row.len() {
-        put_at(rt, i, row[i])?;
-        i += 1;
+    let (plans, _) = row.as_chunks::<ROW_NUMBERS>();
+    for [number, place, count, input] in plans {
+        println!(rt; "{number} {place} {count} {input}")?;
     }
     Ok(())
 }
@@ -49,52 +35,26 @@ fn answer_plans(
     }
     let lent = &mut row[..ROW_NUMBERS * count];
     let answer = release(file, lent, budget);
-    put_line(
-        &mut io::writer(rt),
-        answer.number as u64,
-        answer.place as u64,
-        answer.count as u64,
-    )?;
+    rt.println(Numbers(answer))?;
     if answer.number == answers::VERIFIED {
-        return put_row(rt, lent);
+        put_row(rt, lent)?;
     }
     Ok(())
 }
 
-// Without enough stack there is no answer, which is said.
-fn answer_to<R: Print + Files, E: Write>(
-    rt: &R,
-    err: &mut E,
-    file: &[u8],
-    budget: u32,
-) -> io::Result<()> {
-    if !stack_is_enough(rt, err, b"release", b"", file.len()) {
-        return Ok(());
-    }
-    let mut row = [0u32; ROW_ROOM];
-    answer_plans(rt, file, budget, plans(file), &mut row)
-}
-
-fn release_input<R: Print + io::Input + Files, E: Write>(rt: &R, err: &mut E, budget: u32) {
-    // One byte more than a release file may have: a longer one is refused whatever it holds.
-    let mut bytes = [0u8; REQUEST_ROOM];
-    match read_all(&mut rt.reader(), &mut bytes) {
-        Input::Bytes(n) => {
-            if let Err(error) = answer_to(rt, err, &bytes[..n], budget) {
-                fail(err, b"release: standard output", error);
-            }
-        }
-        Input::Unreadable(error) => fail(err, b"release: standard input", error),
-    }
-}
-
 fn main(rt: HostRuntime) {
-    let mut err = rt.stderr();
+    let program = Program::new(&rt, "release");
     // The program's name is its only other word.
-    match budget_asked(&rt, 1) {
-        Asked::Number(budget) => release_input(&rt, &mut err, budget),
-        Asked::Nothing => {
-            let _ = err.write_all(b"release: a budget is a decimal number up to 4294967295\n");
+    let Some(budget) = program.budget_asked(1) else {
+        program.say_budget();
+        return;
+    };
+    // Without enough stack there is no answer, which is said.
+    program.answer_input(|file| {
+        if !program.stack_is_enough(None, file.len()) {
+            return Ok(());
         }
-    }
+        let mut row = [0u32; ROW_ROOM];
+        answer_plans(&rt, file, budget, plans(file), &mut row)
+    });
 }

@@ -3,150 +3,143 @@
 #![tactic(auto)]
 
 mod answering;
-mod arguments;
 mod printing;
 
 ghost use Rattle.std.specs.Prelude.{◌≤◌};
 
-use answering::{Outcome, outcome_at};
-use arguments::{Command, Found, command_at, files_from, files_of};
-use programs::{fail, is_word, put, put_number, word_count};
+use answering::{Outcome, check_files, judge_file};
+use glintstring::check_calls::{check, check_whether};
+use programs::Program;
 use std::env::Env;
-use std::io;
-use std::io::Write;
+use std::fmt::Display;
 use std::rt::Files;
+use std::{fmt, io};
 
-// What an outcome adds to those that pass.
-fn passing(outcome: Outcome) -> usize
-    ensures { result ≤ 1 }
-{
-    if let Outcome::Passes = outcome { 1 } else { 0 }
+// How many answers were asked for, how many of them pass, and how many there are not.
+#[derive(Clone, Copy)]
+struct Tally {
+    asked: usize,
+    passed: usize,
+    unanswered: usize,
 }
 
-// What an outcome adds to those without an answer.
-fn missing(outcome: Outcome) -> usize
-    ensures { result ≤ 1 }
-{
-    if let Outcome::Unanswered = outcome {
-        1
-    } else {
-        0
+// As a script is told it.
+impl Display for Tally {
+    fn fmt<W: fmt::Write>(&self, f: &mut fmt::Formatter<W>) -> fmt::Result {
+        let Tally {
+            asked,
+            passed,
+            unanswered,
+        } = *self;
+        write!(f, "{asked} {passed} {unanswered}")
     }
 }
 
 // The last line, where there is more than one answer.
-fn put_sum(rt: &impl Print, asked: usize, passed: usize, unanswered: usize) -> io::Result<()> {
+fn put_sum(rt: &impl Print, tally: Tally) -> io::Result<()> {
+    let Tally {
+        asked,
+        passed,
+        unanswered,
+    } = tally;
     if asked < 2 {
         return Ok(());
     }
-    put(rt, b"in all: ")?;
-    put_number(rt, passed as u64)?;
-    put(rt, b" of ")?;
-    put_number(rt, asked as u64)?;
-    put(rt, b" pass, ")?;
-    put_number(rt, unanswered as u64)?;
-    put(rt, b" without an answer\n")
+    println!(rt; "in all: {passed} of {asked} pass, {unanswered} without an answer")
 }
 
 // The sum, and where the script asks for it the tally that the exit status is made of.
-fn tell<R: Print + Files, E: Write>(
-    rt: &R,
-    err: &mut E,
-    tallied: bool,
-    asked: usize,
-    passed: usize,
-    unanswered: usize,
-) {
-    if let Err(error) = put_sum(rt, asked, passed, unanswered) {
-        fail(err, b"review: standard output", error);
-        return;
-    }
+fn tell<R: Print + Files>(rt: &R, tallied: bool, tally: Tally) -> io::Result<()> {
+    put_sum(rt, tally)?;
     if tallied {
-        let _ = programs::tell(rt, asked as u64, passed as u64, unanswered as u64);
+        let _ = programs::tell(rt, tally);
     }
+    Ok(())
 }
 
 // An answer for each file or two from argument `first` on, until one can't be printed.
-fn review_all<R: Print + io::Input + Env + Files, E: Write>(
-    rt: &R,
-    err: &mut E,
-    tallied: bool,
-    command: Command,
+fn review_all<F: Fn(usize, usize) -> io::Result<Outcome> + Drop>(
     first: usize,
     count: usize,
-) {
-    let each = files_of(command);
-    let mut i = first;
-    let mut asked = 0;
-    let mut passed = 0;
-    let mut unanswered = 0;
-    while i < count {
-        if count - i < each {
-            break;
+    each: usize,
+    review: F,
+) -> io::Result<Tally>
+    requires each { (1 ≤ each) × (each ≤ 2) }
+    requires review { F.IsAlwaysCallable review }
+{
+    let mut tally = Tally {
+        asked: 0,
+        passed: 0,
+        unanswered: 0,
+    };
+    for i in (first..count).step_by(each) {
+        let outcome = review(i, i + (each - 1))?;
+        tally.asked += 1;
+        match outcome {
+            Outcome::Passes => tally.passed += 1,
+            Outcome::Unanswered => tally.unanswered += 1,
+            Outcome::Other => {}
         }
-        let next = i + each;
-        let outcome = outcome_at(rt, err, command, i, next - 1);
-        if let Outcome::Unwritten(error) = outcome {
-            fail(err, b"review: standard output", error);
-            return;
-        }
-        asked += 1;
-        passed += passing(outcome);
-        unanswered += missing(outcome);
-        i = next;
     }
-    tell(rt, err, tallied, asked, passed, unanswered);
+    Ok(tally)
 }
 
-fn say_misused<E: Write>(err: &mut E) {
-    let _ = err.write_all(
-        b"review: judge BUDGET FILE..., check REQUEST DERIVATION... or check-whether REQUEST DERIVATION... is needed\n",
+fn say_misused<R>(program: &Program<'_, R>) {
+    let _ = program.say(
+        "judge BUDGET FILE..., check REQUEST DERIVATION... or check-whether REQUEST DERIVATION... is needed",
     );
 }
 
-// The files are those from argument `first` on, and there are as many as whole answers take.
-fn review_files<R: Print + io::Input + Env + Files, E: Write>(
-    rt: &R,
-    err: &mut E,
-    tallied: bool,
-    command: Command,
-    first: usize,
-) {
-    let count = word_count(rt);
-    let each = files_of(command);
-    if count <= first {
-        say_misused(err);
+// The files are those from argument `first` on, and there are as many as whole answers take, which take one each or two.
+fn review_files<R, F>(program: &Program<'_, R>, tallied: bool, first: usize, each: usize, review: F)
+where
+    R: Print + Env + Files,
+    F: Fn(usize, usize) -> io::Result<Outcome> + Drop,
+    requires each { (1 ≤ each) × (each ≤ 2) }
+    requires review { F.IsAlwaysCallable review }
+{
+    let count = program.word_count();
+    if count <= first || (count - first) % each != 0 {
+        say_misused(program);
         return;
     }
-    if (count - first) % each != 0 {
-        say_misused(err);
-        return;
+    let told = review_all(first, count, each, review).and_then(|tally| tell(
+        program.rt, tallied, tally,
+    ));
+    if let Err(error) = told {
+        program.fail("standard output", error);
     }
-    review_all(rt, err, tallied, command, first, count);
 }
 
-// The command is argument i.
-fn review_from<R: Print + io::Input + Env + Files, E: Write>(
-    rt: &R,
-    err: &mut E,
+// The command is argument i. The budget of `judge` is the argument after it.
+fn review_from<R: Print + io::Input + Env + Files>(
+    program: &Program<'_, R>,
     tallied: bool,
     i: usize,
 )
     requires { i ≤ 2 }
 {
-    match command_at(rt, i) {
-        Found::Command(command) => {
-            review_files(rt, err, tallied, command, files_from(command, i))
-        }
-        Found::Nothing => say_misused(err),
+    if program.is_word(i, b"check") {
+        review_files(program, tallied, i + 1, 2, |i, j| {
+            check_files(program, [i, j], check)
+        });
+    } else if program.is_word(i, b"check-whether") {
+        review_files(program, tallied, i + 1, 2, |i, j| {
+            check_files(program, [i, j], check_whether)
+        });
+    } else if program.is_word(i, b"judge")
+        && let Some(budget) = program.number_at(i + 1)
+    {
+        review_files(program, tallied, i + 2, 1, |i, _| {
+            judge_file(program, i, budget)
+        });
+    } else {
+        say_misused(program);
     }
 }
 
 fn main(rt: HostRuntime) {
-    let mut err = rt.stderr();
-    if is_word(&rt, 1, b"--tally") {
-        review_from(&rt, &mut err, true, 2);
-        return;
-    }
-    review_from(&rt, &mut err, false, 1);
+    let program = Program::new(&rt, "review");
+    let tallied = program.is_word(1, b"--tally");
+    review_from(&program, tallied, if tallied { 2 } else { 1 });
 }

@@ -1,86 +1,86 @@
-// The lines that an answer is told by, below the one with its words (FORMAT 12.35 to 12.37).
+// What an answer is told by, behind the names of its inputs (FORMAT 12.34 to 12.37).
 use glintstring::showing::show;
 use meaning::Answer;
-use parsing::limits;
-use programs::{put, put_number, put_state};
-use std::io;
-use std::io::ErrorKind;
+use programs::Signs;
+use std::fmt::Display;
+use std::{fmt, io};
 use verdicts::answers;
 
 // How many bytes are printed of the part that an answer is about.
 const SHOWN: usize = 16;
 
-pub fn put_numbers(rt: &impl Print, answer: Answer) -> io::Result<()> {
-    put(rt, b"  number ")?;
-    put_number(rt, answer.number as u64)?;
-    put(rt, b", place ")?;
-    put_number(rt, answer.place as u64)?;
-    put(rt, b", count ")?;
-    put_number(rt, answer.count as u64)?;
-    put(rt, b"\n")
+// An answer in words, with its numbers, the marks of the state that it leaves, where it leaves one, and the part of an input that it is about.
+#[derive(Clone, Copy)]
+struct Told<'a> {
+    answer: Answer,
+    words: &'a str,
+    left: Option<&'a [u8]>,
+    part: &'a [u8],
 }
 
-// The state, for answers 1 and 2. The first byte of a request that gets one of these is its fluent count.
-pub fn put_known(
-    rt: &impl Print,
-    number: u8,
-    state: &[u8; limits::FLUENTS],
-    request: &[u8],
-) -> io::Result<()> {
-    if number == answers::GOAL_MISSED || number == answers::NOT_EXECUTABLE {
-        if request.len() == 0 {
-            return Err(io::Error::from(ErrorKind::InvalidData));
-        }
-        put(rt, b"  state ")?;
-        return put_state(rt, state, request[0]);
-    }
-    Ok(())
-}
-
-// The bytes that the answer is about, where it names an input.
-pub fn put_part<'a>(
+// What is told of an answer, behind the names of its inputs.
+pub fn put_told<'a>(
     rt: &impl Print,
     answer: Answer,
+    words: &'a str,
+    left: Option<&'a [u8]>,
     request: &'a [u8],
     derivation: &'a [u8],
 ) -> io::Result<()> {
-    let input = answer.input;
-    let place = answer.place;
-    if input == answers::NEITHER_INPUT {
-        return Ok(());
-    }
     let part = show(answer, request, derivation);
-    put_input(rt, input)?;
-    put(rt, b" from ")?;
-    put_number(rt, place as u64)?;
-    put(rt, b":")?;
-    put_bytes(rt, part)?;
-    put(rt, b"\n")
+    let told = Told {
+        answer,
+        words,
+        left,
+        part,
+    };
+    println!(rt; ": {told}")
 }
 
-fn put_input(rt: &impl Print, input: u8) -> io::Result<()> {
-    if input == answers::THE_DERIVATION {
-        return put(rt, b"  derivation");
-    }
-    put(rt, b"  request")
-}
-
-fn put_bytes(rt: &impl Print, part: &[u8]) -> io::Result<()> {
-    if part.len() == 0 {
-        return put(rt, b" it ends there");
-    }
-    let mut i = 0;
-    while i < part.len() {
-        if i == SHOWN {
-            return put(rt, b" ...");
+impl Display for Told<'_> {
+    fn fmt<W: fmt::Write>(&self, f: &mut fmt::Formatter<W>) -> fmt::Result {
+        let words = self.words;
+        let Answer {
+            number,
+            input,
+            place,
+            count,
+        } = self.answer;
+        write!(
+            f,
+            "{words}\n  number {number}, place {place}, count {count}"
+        )?;
+        if let Some(marks) = self.left {
+            let signs = Signs(marks);
+            write!(f, "\n  state {signs}")?;
         }
-        put_byte(rt, part[i])?;
-        i += 1;
+        let input = match input {
+            answers::NEITHER_INPUT => return Ok(()),
+            answers::THE_DERIVATION => "derivation",
+            _ => "request",
+        };
+        let part = Part(self.part);
+        write!(f, "\n  {input} from {place}:{part}")
     }
-    Ok(())
 }
 
-fn put_byte(rt: &impl Print, byte: u8) -> io::Result<()> {
-    put(rt, b" ")?;
-    put_number(rt, byte as u64)
+// The first bytes of a part of an input, each behind a space.
+#[derive(Clone, Copy)]
+struct Part<'a>(&'a [u8]);
+
+impl Display for Part<'_> {
+    fn fmt<W: fmt::Write>(&self, f: &mut fmt::Formatter<W>) -> fmt::Result {
+        let part = self.0;
+        if part.is_empty() {
+            return f.write_str(" it ends there");
+        }
+        let shown = &part[..part.len().min(SHOWN)];
+        for byte in shown {
+            write!(f, " {byte}")?;
+        }
+        if shown.len() < part.len() {
+            f.write_str(" ...")?;
+        }
+        Ok(())
+    }
 }

@@ -13,7 +13,7 @@ use Rattle.meaning.specs.Limits.{format}
 use Rattle.meaning.specs.Literals.{among, exclusive}
 use Rattle.meaning.specs.Requests.{Sequence, done, item, act, branching, Branches, none, branch}
 use Rattle.meaning.specs.declared.Form.TheVariants.{Flags}
-use Rattle.meaning.specs.Reading.{got, fault, Met, plan_at}
+use Rattle.meaning.specs.Reading.{got, Met, plan_at}
 use Rattle.meaning.specs.States.{State, known, state_of}
 use Rattle.meaning.specs.declared.Layout.{Layout}
 use Rattle.meaning.specs.Derivations.{Line, same_list, same_plan, join, included, same_conclusion, says, takes_branch, branches_first, rule_4}
@@ -22,8 +22,9 @@ use Rattle.meaning.proofs.ToldLaws.{Clear, state_known}
 use Rattle.meaning.proofs.SettledLaws.{fault≢got, got_same}
 use Rattle.meaning.proofs.PlanReads.{Said, PassedOn, plan_on}
 use Rattle.parsing.proofs.LineReaderLaws.{counted_flags}
-use Rattle.parsing.specs.declared.bytes.Read.{Read}
-use Rattle.parsing.specs.declared.bytes.Read.TheVariants.{Value, Fault}
+use Rattle.std.specs.Prelude.{Ok, Err}
+use Rattle.parsing.specs.declared.faults.Fault.{Fault}
+use Rattle.parsing.specs.Read.{Numbered, stopped}
 use Rattle.reading.specs.declared.marks.Test.TheVariants.{Known}
 use Rattle.reading.specs.Listed.{listed, holds_as}
 use Rattle.reading.specs.Planned.{items_of, items_in, items_under, bytes_of, bytes_in, bytes_under, place_of, plan_noted, noting_met, outcome_met}
@@ -416,12 +417,12 @@ module _ (n m : ℕ) (d : List ℕ) (w : Spot) where
             }
 
         -- THE PLAN READ AGAIN, which leaves it in the notes.
-        module _ (byte : get_or d (plan + 2) 0 ≡ 255) (few : n ≤ format.fluents) (less : m ≤ format.actions) (t u : List ℕ) (r : Read) (read : outcome_met r u ≡ noting_met (plan_noted Flags plan t) (plan_at format Flags n m d plan)) where
+        module _ (byte : get_or d (plan + 2) 0 ≡ 255) (few : n ≤ format.fluents) (less : m ≤ format.actions) (t u : List ℕ) (r : Numbered) (read : outcome_met r u ≡ noting_met (plan_noted Flags plan t) (plan_at format Flags n m d plan)) where
           again : (l : Line) (parts : LineParts n m d w.line l) → plan_at format Flags n m d plan ≡ got parts.plan parts.end
           unfolding sequence_place after_list
           again l parts = ap (plan_at format Flags n m d) at ∙ parts.reads
 
-          module _ (long : length t ≡ slots) (items e : ℕ) (is : r ≡ Value items e) where
+          module _ (long : length t ≡ slots) (items e : ℕ) (is : r ≡ Ok (items, e)) where
             begins : (layout : Layout) (l : Line) → LineHere n m d layout w.line l → Stands d w l → Begins d u (plan + 2) w.end (count - 1) l
             unfolding place_of
             begins layout l here sl =
@@ -473,10 +474,10 @@ module _ (n m : ℕ) (d : List ℕ) (w : Spot) where
                   }
 
           -- A plan that stands there is read without a fault.
-          pub read_again : (v : Spot) (k e : ℕ) → r ≡ Fault k e → ReadBy n m d v w rule_4 false
-          read_again v k e is =
+          pub read_again : (v : Spot) (why : Fault) → r ≡ Err why → ReadBy n m d v w rule_4 false
+          read_again v why is =
               record {
                 holds = λ layout c l sc here sl.
-                    let no : plan_at format Flags n m d plan ≡ fault k e = fault_met (plan_noted Flags plan t) (plan_at format Flags n m d plan) k e (met_fault (plan_noted Flags plan t) (plan_at format Flags n m d plan) r u k e read is) in
+                    let no : plan_at format Flags n m d plan ≡ stopped why = fault_met (plan_noted Flags plan t) (plan_at format Flags n m d plan) why (met_fault (plan_noted Flags plan t) (plan_at format Flags n m d plan) r u why read is) in
                     absurd (fault≢got (sym no ∙ again l (line_parts n m d few layout w.line l here)));
               }

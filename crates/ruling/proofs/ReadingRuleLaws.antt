@@ -18,7 +18,7 @@ use Rattle.meaning.specs.Tests.{both, each_of}
 use Rattle.meaning.specs.Limits.{format}
 use Rattle.meaning.specs.Requests.{Table, Sequence, done, item, act}
 use Rattle.meaning.specs.Lines.{sensing}
-use Rattle.meaning.specs.States.{State, told, state_of, can_be_run, unknown_sensed, readings}
+use Rattle.meaning.specs.States.{State, state_of, can_be_run, unknown_sensed, readings}
 use Rattle.meaning.specs.Derivations.{Conclusion, knows, Line, same_list, same_plan, literals_of, same_conclusion, says, states_of, each_reads, reads, senses_first, rule_3, cited_by}
 use Rattle.meaning.proofs.TestLaws.{by-test, both_left, both_right, pick_true, pick_false}
 use Rattle.meaning.proofs.ReadingsExact.{count_settled}
@@ -33,11 +33,12 @@ use Rattle.steps.specs.Small.{Small}
 use Rattle.steps.specs.Steps.{unknown_above, first_of}
 use Rattle.steps.proofs.LookLaws.{first_marked, second_marked, told_true, told_false, unknown_after_set, unknown_first, unknown_first_above, unknown_no_first, sensed_first, sensed_no_first}
 use Rattle.steps.proofs.ToldMarks.{marked_as}
-use Rattle.ruling.specs.declared.readings.Used.{Used}
-use Rattle.ruling.specs.declared.readings.Used.TheVariants.{To, Fails}
+use Rattle.std.specs.Prelude.{Option, Some, None}
+use Rattle.std.specs.Option.{option_eq}
+use Rattle.std.specs.Bool.{then_some}
 use Rattle.comparing.specs.declared.spots.Spot.{Spot}
 use Rattle.comparing.specs.Coded.{coded}
-use Rattle.comparing.specs.Stands.{PlanStands, NumbersStand, Stands, spot_at, LinesStand}
+use Rattle.comparing.specs.Stands.{PlanStands, NumbersStand, Stands, spot_at, number_cited, LinesStand}
 use Rattle.comparing.specs.RuleAnswers.{ItemsStand, SameConclusions, SomeLine, SomeLines, CitedBelow, RuledByAll}
 use Rattle.ruling.specs.Readings.{lines_at, reads_at, used, fluents_from, states_from, StandsSome, rest_first, rest_items, Follows, SomeFollows, SaysReading, RestStands, SomeRest, Uses}
 use Rattle.comparing.proofs.CodedLaws.{same_own, same_coded, none_done, coded_length}
@@ -120,7 +121,7 @@ abbrev slot_spot : Layout → (d places : List ℕ) → ℕ → Spot
 slot_spot layout d places i = spot_at layout d (get_or places i 0) (get_or places (plan_ends_slot + i) 0)
 
 -- CITATION k. Two bytes say its number.
-number_stands : (d cites : List ℕ) (p k : ℕ) → NumbersStand d p cites → k < length cites
+pub number_stands : (d cites : List ℕ) (p k : ℕ) → NumbersStand d p cites → k < length cites
     → (p + 2 * k + 1 < length d) × (get_or d (p + 2 * k) 0 * 256 + get_or d (p + 2 * k + 1) 0 ≡ get_or cites k 0)
 unfolding NumbersStand
 number_stands d [] p k stand less = absurd (omega (arith, less))
@@ -129,7 +130,7 @@ number_stands d (x ∷ cites) p (suc k) stand less =
     let on : p + 2 * suc k ≡ p + 2 + 2 * k = omega arith in
     rw on (number_stands d cites (p + 2) k stand.2 (omega (arith, less)))
 
-each_at : (test : ℕ → Bool) (cites : List ℕ) (k : ℕ) → each_of test cites ≡ true → k < length cites → test (get_or cites k 0) ≡ true
+pub each_at : (test : ℕ → Bool) (cites : List ℕ) (k : ℕ) → each_of test cites ≡ true → k < length cites → test (get_or cites k 0) ≡ true
 unfolding each_of
 each_at test [] k all less = absurd (omega (arith, less))
 each_at test (x ∷ cites) zero all less = both_left _ _ all
@@ -146,7 +147,7 @@ line_at_number lines other (x ∷ cites) zero less = refl
 line_at_number lines other (x ∷ cites) (suc k) less = line_at_number lines other cites k (omega (arith, less))
 
 module _ (layout : Layout) (d places : List ℕ) (w : Spot) (count : ℕ) (counts : count ≡ get_or d w.cites 0) (k : ℕ) where
-  pub none_left : (marks : State) → count ≤ k → Uses layout d places w (marks ∷ []) k Fails
+  pub none_left : (marks : State) → count ≤ k → Uses layout d places w (marks ∷ []) k None
   unfolding used reads_at
   none_left marks far =
       record {
@@ -165,29 +166,17 @@ module _ (layout : Layout) (d places : List ℕ) (w : Spot) (count : ℕ) (count
     pub second_inside : w.cites + 1 + 2 * k + 1 < length d
     second_inside = (number_stands d some.cites (w.cites + 1) k some.stands.numbers near).0
 
-    pub first_inside : w.cites + 1 + 2 * k < length d
-    first_inside = let there = second_inside in omega (arith, there)
-
-    pub twice_fits : Fits w64 (2 * k)
-    twice_fits = let there = second_inside in let long = some.stands.stand.long in record { fits = omega (arith, there, long) }
-
-    pub numbers_fit : Fits w64 (w.cites + 1)
-    numbers_fit = let there = second_inside in let long = some.stands.stand.long in record { fits = omega (arith, there, long) }
-
-    pub first_fits : Fits w64 (w.cites + 1 + 2 * k)
-    first_fits = let there = second_inside in let long = some.stands.stand.long in record { fits = omega (arith, there, long) }
-
-    pub second_fits : Fits w64 (w.cites + 1 + 2 * k + 1)
-    second_fits = let there = second_inside in let long = some.stands.stand.long in record { fits = omega (arith, there, long) }
-
   -- Its line stands where the slots say.
-  module _ (less : k < count) (number : ℕ) (read : number ≡ get_or d (w.cites + 1 + 2 * k) 0 * 256 + get_or d (w.cites + 1 + 2 * k + 1) 0) where
+  module _ (less : k < count) where
+    abbrev number : ℕ
+    number = number_cited d w k
+
     module _ (lines : List Line) (rest : Sequence ℕ) (Y : Conclusion) (cites : List ℕ) (v : RestStands layout d places w lines rest Y cites) where
       close : k < length cites
       close = let counted = v.counted in omega (arith, less, counted, counts)
 
       is_number : number ≡ get_or cites k 0
-      is_number = read ∙ (number_stands d cites (w.cites + 1) k v.numbers close).1
+      is_number = (number_stands d cites (w.cites + 1) k v.numbers close).1
 
       is_below : number < length lines
       is_below = rw is_number (ltb-true (get_or cites k 0) (length lines) (each_at (λ (j : ℕ). ltb j (length lines)) cites k v.below close))
@@ -199,14 +188,14 @@ module _ (layout : Layout) (d places : List ℕ) (w : Spot) (count : ℕ) (count
         cited_near : ltb k (length (lines_at lines other cites)) ≡ true
         cited_near = let size = lines_length lines other cites in lt-ltb k (length (lines_at lines other cites)) (let there = close in omega (arith, there, size))
 
-    pub number_below : (total i : ℕ) → SomeRest layout d places total (slot_spot layout d places i) → w ≡ slot_spot layout d places i → number < total
+    pub number_below : (total i : ℕ) → SomeRest layout d places total (slot_spot layout d places i) → w ≡ slot_spot layout d places i → number_cited d w k < total
     number_below total i given placed =
         let some : SomeRest layout d places total w = subst (SomeRest layout d places total) (sym placed) given in
         let below = is_below some.lines some.rest some.Y some.cites some.stands in
         let size = some.size in
         omega (arith, below, size)
 
-    module _ (v : Spot) (placed : v ≡ slot_spot layout d places number) (marks : State) (said : Bool) (says_so : SaysReading d marks w v said) where
+    module _ (v : Spot) (placed : v ≡ slot_spot layout d places (number_cited d w k)) (marks : State) (said : Bool) (says_so : SaysReading d marks w v said) where
       said_is : (lines : List Line) (rest : Sequence ℕ) (Y : Conclusion) (cites : List ℕ) (other : Line) → RestStands layout d places w lines rest Y cites
           → said ≡ reads_at rest Y (lines_at lines other cites) other marks k
       unfolding reads_at
@@ -214,13 +203,16 @@ module _ (layout : Layout) (d places : List ℕ) (w : Spot) (count : ℕ) (count
           says_so.holds (get_or (lines_at lines other cites) k other) rest Y (rw placed (cited_stands lines rest Y cites z other)) z.follows
           ∙ sym (yes_left _ _ (cited_near lines rest Y cites z other))
 
-      pub reading_said : said ≡ true → Uses layout d places w (marks ∷ []) k (To (k + 1))
+      pub reading_told : (r : Option ℕ) → r ≡ then_some said (k + 1) → Uses layout d places w (marks ∷ []) k r
       unfolding used
-      reading_said t = record { holds = λ lines rest Y cites other z. sym (pick_true _ _ _ (sym (said_is lines rest Y cites other z) ∙ t)) }
-
-      pub reading_unsaid : said ≡ false → Uses layout d places w (marks ∷ []) k Fails
-      unfolding used
-      reading_unsaid f = record { holds = λ lines rest Y cites other z. sym (pick_false _ _ _ (sym (said_is lines rest Y cites other z) ∙ f)) }
+      reading_told r is =
+          record {
+            holds = λ lines rest Y cites other z.
+                is
+                ∙ by-test said
+                (λ t. rw t (sym (pick_true _ _ _ (sym (said_is lines rest Y cites other z) ∙ t))))
+                (λ f. rw f (sym (pick_false _ _ _ (sym (said_is lines rest Y cites other z) ∙ f))));
+          }
 
 -- LINE i, at the spot w.
 module _ (layout : Layout) (d places : List ℕ) (total i : ℕ) (given : SomeRest layout d places total (slot_spot layout d places i)) where
@@ -248,17 +240,15 @@ module _ (layout : Layout) (d places : List ℕ) (total i : ℕ) (given : SomeRe
     some_follows = rw placed (record { rest = given.rest; Y = given.Y; follows = given.stands.follows })
 
     -- And the line of citation k.
-    pub number_line : (count : ℕ) → count ≡ get_or d w.cites 0 → (k : ℕ) → k < count → (number : ℕ) → number ≡ get_or d (w.cites + 1 + 2 * k) 0 * 256 + get_or d (w.cites + 1 + 2 * k + 1) 0
-        → (v : Spot) → v ≡ slot_spot layout d places number → StandsSome d v
-    number_line count counts k less number read v there =
-        line_there number (number_below layout d places w count counts k less number read total i given placed) v there
+    pub number_line : (count : ℕ) → count ≡ get_or d w.cites 0 → (k : ℕ) → k < count → (v : Spot) → v ≡ slot_spot layout d places (number_cited d w k) → StandsSome d v
+    number_line count counts k less v there = line_there (number_cited d w k) (number_below layout d places w count counts k less total i given placed) v there
 
-    pub said_of : (states : List State) (k : ℕ) (answer : Used) → Uses layout d places w states k answer → Uses layout d places (slot_spot layout d places i) states k answer
+    pub said_of : (states : List State) (k : ℕ) (answer : Option ℕ) → Uses layout d places w states k answer → Uses layout d places (slot_spot layout d places i) states k answer
     said_of states k answer uses = subst (λ (z : Spot). Uses layout d places z states k answer) placed uses
 
 -- STATES ONE AFTER THE OTHER.
-abbrev on : Used → (ℕ → Used) → Used
-on r then = elim r [ To j ↦ then j | Fails ↦ Fails ]
+abbrev on : Option ℕ → (ℕ → Option ℕ) → Option ℕ
+on r then = elim r [ Some j ↦ then j | None ↦ None ]
 
 module _ (rest : Sequence ℕ) (Y : Conclusion) (cited : List Line) (other : Line) where
   used_then : (xs ys : List State) (k : ℕ) → used rest Y cited other (xs ++ ys) k ≡ on (used rest Y cited other xs k) (used rest Y cited other ys)
@@ -266,8 +256,8 @@ module _ (rest : Sequence ℕ) (Y : Conclusion) (cited : List Line) (other : Lin
   used_then [] ys k = refl
   used_then (x ∷ xs) ys k =
       by-test (reads_at rest Y cited other x k)
-      (λ t. pick_true _ _ _ t ∙ used_then xs ys (k + 1) ∙ ap (λ (u : Used). on u (used rest Y cited other ys)) (sym (pick_true _ _ _ t)))
-      (λ f. pick_false _ _ _ f ∙ ap (λ (u : Used). on u (used rest Y cited other ys)) (sym (pick_false _ _ _ f)))
+      (λ t. pick_true _ _ _ t ∙ used_then xs ys (k + 1) ∙ ap (λ (u : Option ℕ). on u (used rest Y cited other ys)) (sym (pick_true _ _ _ t)))
+      (λ f. pick_false _ _ _ f ∙ ap (λ (u : Option ℕ). on u (used rest Y cited other ys)) (sym (pick_false _ _ _ f)))
 
 -- THE FIRST UNKNOWN FLUENT f, with the next one g.
 module _ (t : Table) (a : ℕ) (marks : State) (marked : Marked marks) (f : ℕ) where
@@ -301,18 +291,18 @@ module _ (t : Table) (a : ℕ) (marks : State) (marked : Marked marks) (f : ℕ)
           | no far ↦ omega (arith, far, small, is)
         ]
 
-    module _ (layout : Layout) (d places : List ℕ) (v : Spot) (k : ℕ) (answer : Used) (first : Uses layout d places v (states_from t a (set marks f 1) g) k answer) where
-      pub first_fails : answer ≡ Fails → Uses layout d places v (states_from t a marks f) k Fails
+    module _ (layout : Layout) (d places : List ℕ) (v : Spot) (k : ℕ) (answer : Option ℕ) (first : Uses layout d places v (states_from t a (set marks f 1) g) k answer) where
+      pub first_fails : answer ≡ None → Uses layout d places v (states_from t a marks f) k None
       first_fails is =
           record {
             holds = λ lines rest Y cites other w.
                 let cited = lines_at lines other cites in
                 sym (ap (λ (ss : List State). used rest Y cited other ss k) states_split
                 ∙ used_then rest Y cited other (states_from t a (set marks f 1) g) (states_from t a (set (set marks f 1) f 2) g) k
-                ∙ ap (λ (u : Used). on u (used rest Y cited other (states_from t a (set (set marks f 1) f 2) g))) (sym (first.holds lines rest Y cites other w) ∙ is));
+                ∙ ap (λ (u : Option ℕ). on u (used rest Y cited other (states_from t a (set (set marks f 1) f 2) g))) (sym (first.holds lines rest Y cites other w) ∙ is));
           }
 
-      pub both_read : (j : ℕ) → answer ≡ To j → (last : Used) → Uses layout d places v (states_from t a (set (set marks f 1) f 2) g) j last → Uses layout d places v (states_from t a marks f) k last
+      pub both_read : (j : ℕ) → answer ≡ Some j → (last : Option ℕ) → Uses layout d places v (states_from t a (set (set marks f 1) f 2) g) j last → Uses layout d places v (states_from t a marks f) k last
       both_read j is last second =
           record {
             holds = λ lines rest Y cites other w.
@@ -320,19 +310,19 @@ module _ (t : Table) (a : ℕ) (marks : State) (marked : Marked marks) (f : ℕ)
                 second.holds lines rest Y cites other w
                 ∙ sym (ap (λ (ss : List State). used rest Y cited other ss k) states_split
                 ∙ used_then rest Y cited other (states_from t a (set marks f 1) g) (states_from t a (set (set marks f 1) f 2) g) k
-                ∙ ap (λ (u : Used). on u (used rest Y cited other (states_from t a (set (set marks f 1) f 2) g))) (sym (first.holds lines rest Y cites other w) ∙ is));
+                ∙ ap (λ (u : Option ℕ). on u (used rest Y cited other (states_from t a (set (set marks f 1) f 2) g))) (sym (first.holds lines rest Y cites other w) ∙ is));
           }
 
 -- There is none.
-pub read_whole : (t : Table) (a : ℕ) (marks : State) (f : ℕ) → format.fluents ≤ f → (layout : Layout) (d places : List ℕ) (v : Spot) (k : ℕ) (answer : Used)
+pub read_whole : (t : Table) (a : ℕ) (marks : State) (f : ℕ) → format.fluents ≤ f → (layout : Layout) (d places : List ℕ) (v : Spot) (k : ℕ) (answer : Option ℕ)
     → Uses layout d places v (marks ∷ []) k answer → Uses layout d places v (states_from t a marks f) k answer
 unfolding states_from fluents_from readings states_of
 read_whole t a marks f far layout d places v k answer uses =
     subst (λ (fs : List ℕ). Uses layout d places v (states_of (readings fs marks)) k answer) (sym (pick_false _ _ _ (le-ltb f format.fluents far))) uses
 
 -- USED UP: each line says its reading exactly where the citations used are all.
-abbrev all_used : ℕ → Used → Bool
-all_used n u = elim u [ To j ↦ eqb j n | Fails ↦ false ]
+abbrev all_used : ℕ → Option ℕ → Bool
+all_used n u = option_eq eqb u (Some n)
 
 module _ (rest : Sequence ℕ) (Y : Conclusion) where
   module _ (cited : List Line) (other : Line) where
@@ -365,9 +355,9 @@ module _ (rest : Sequence ℕ) (Y : Conclusion) where
               (λ f.
               ap (each_reads rest Y (s ∷ ss)) (line_next k less)
               ∙ sym (no_left _ _ f)
-              ∙ ap (all_used (length cited)) (sym (pick_false (reads_at rest Y cited other s k) (λ _. used rest Y cited other ss (k + 1)) (λ _. Fails) (reads_near s k less ∙ f))))
+              ∙ ap (all_used (length cited)) (sym (pick_false (reads_at rest Y cited other s k) (λ _. used rest Y cited other ss (k + 1)) (λ _. None) (reads_near s k less ∙ f))))
           | no far ↦ ap (each_reads rest Y (s ∷ ss)) (drop_of_length-le cited {i = k} (omega (arith, far)))
-              ∙ ap (all_used (length cited)) (sym (pick_false (reads_at rest Y cited other s k) (λ _. used rest Y cited other ss (k + 1)) (λ _. Fails) (reads_far s k (omega (arith, far)))))
+              ∙ ap (all_used (length cited)) (sym (pick_false (reads_at rest Y cited other s k) (λ _. used rest Y cited other ss (k + 1)) (λ _. None) (reads_far s k (omega (arith, far)))))
         ]
 
 -- The states by the first unknown fluent are all.
@@ -513,7 +503,7 @@ module _ (d : List ℕ) (w : Spot) (q count : ℕ) (after : q ≡ sequence_place
         cited_size : (cited : ℕ) → cited ≡ get_or d w.cites 0 → (l : Line) → Stands d w l → cited ≡ length l.cites
         cited_size cited size l v = size ∙ v.cited
 
-        module _ (a : ℕ) (byte : a ≡ get_or d (q + 2) 0) (t : Table) (senses : Bool) (tested : senses ≡ sensing t a) (marks : State) (held : marks ≡ state_of format (listed d w.line)) (runs : Bool) (asked : runs ≡ can_be_run t a marks) (yes : senses ≡ true) (can : runs ≡ true) (f : ℕ) (first : f ≡ first_of (unknown_sensed t a marks)) (cited : ℕ) (size : cited ≡ get_or d w.cites 0) (i : ℕ) (placed : w ≡ slot_spot layout d places i) (answer : Used) (told : Uses layout d places (slot_spot layout d places i) (states_from t a marks f) 0 answer) where
+        module _ (a : ℕ) (byte : a ≡ get_or d (q + 2) 0) (t : Table) (senses : Bool) (tested : senses ≡ sensing t a) (marks : State) (held : marks ≡ state_of format (listed d w.line)) (runs : Bool) (asked : runs ≡ can_be_run t a marks) (yes : senses ≡ true) (can : runs ≡ true) (f : ℕ) (first : f ≡ first_of (unknown_sensed t a marks)) (cited : ℕ) (size : cited ≡ get_or d w.cites 0) (i : ℕ) (placed : w ≡ slot_spot layout d places i) (answer : Option ℕ) (told : Uses layout d places (slot_spot layout d places i) (states_from t a marks f) 0 answer) where
           uses : Uses layout d places w (states_from t a marks f) 0 answer
           uses = subst (λ (z : Spot). Uses layout d places z (states_from t a marks f) 0 answer) (sym placed) told
 
@@ -532,8 +522,5 @@ module _ (d : List ℕ) (w : Spot) (q count : ℕ) (after : q ≡ sequence_place
               ∙ each_used rest l.Y lines-cited l states 0 (omega arith)
               ∙ ap₂ {C = Bool} all_used long (sym same)
 
-          pub all_read : (k : ℕ) → answer ≡ To k → RuledByAll layout d places w (rule_3 format t) (eqb k cited)
-          all_read k is = record { holds = λ lines l stand v below. sym (rule_used lines l stand v below ∙ ap (all_used cited) is) }
-
-          pub not_read : answer ≡ Fails → RuledByAll layout d places w (rule_3 format t) false
-          not_read is = record { holds = λ lines l stand v below. sym (rule_used lines l stand v below ∙ ap (all_used cited) is) }
+          pub all_read : (r : Bool) → r ≡ option_eq eqb answer (Some cited) → RuledByAll layout d places w (rule_3 format t) r
+          all_read r is = record { holds = λ lines l stand v below. is ∙ sym (rule_used lines l stand v below) }

@@ -21,7 +21,6 @@ use Rattle.meaning.proofs.TestLaws.{by-test, clash, same_test, both_left, both_r
 use Rattle.reading.specs.Listed.{bytes_from, listed, ListHere}
 use Rattle.meaning.specs.declared.Form.TheVariants.{Flags}
 use Rattle.reading.specs.Planned.{bytes_of}
-use Rattle.reading.specs.Noted.{sensed}
 use Rattle.finding.specs.Branches.{sequence_place, no_item}
 use Rattle.finding.specs.PlansHeld.{own_items}
 use Rattle.finding.proofs.PlanHere.{count_zero}
@@ -30,6 +29,8 @@ use Rattle.steps.specs.AtHand.{Marked}
 use Rattle.steps.specs.Small.{Small}
 use Rattle.steps.proofs.LookLaws.{after_marked}
 use Rattle.steps.proofs.ToldMarks.{marked_as}
+use Rattle.comparing.specs.declared.spots.Concludes.{Concludes}
+use Rattle.comparing.specs.declared.spots.Concludes.TheVariants.{Literals, Fluent}
 use Rattle.comparing.specs.declared.spots.Spot.{Spot}
 use Rattle.comparing.specs.Coded.{Tellable}
 use Rattle.comparing.specs.Stands.{after_list, PlanStands, ConclusionStands, Stands}
@@ -89,58 +90,54 @@ module _ (d : List ℕ) (w : Spot) (q : ℕ) (after : q ≡ sequence_place Flags
 pub XClear : (d : List ℕ) (w : Spot) → SomeLine d w → exclusive (listed d w.line) (listed d w.line) ≡ false
 XClear d w some = let x = some.stands.X in subst (λ (xs : List ℕ). exclusive xs xs ≡ false) (sym x.same) x.clear
 
--- A CONCLUSION is the list that stands at its place, or the fluent there.
+-- A CONCLUSION is the list that stands at its place, or the fluent.
 record Lists (d : List ℕ) (y : ℕ) (Y : Conclusion) : Type 0 where
   is : Y ≡ knows (listed d y)
   here : ListHere all_literals d y
   clear : exclusive (listed d y) (listed d y) ≡ false
 
-record Tells (d : List ℕ) (y : ℕ) (Y : Conclusion) : Type 0 where
-  is : Y ≡ knows_whether (get_or d y 0)
-  there : y < length d
-  small : get_or d y 0 < format.fluents
+record Tells (f : ℕ) (Y : Conclusion) : Type 0 where
+  is : Y ≡ knows_whether f
+  small : f < format.fluents
 
-module _ (d : List ℕ) (y : ℕ) (fluent : Bool) where
-  lists : (Y : Conclusion) → ConclusionStands d fluent y Y → fluent ≡ false → Lists d y Y
+module _ (d : List ℕ) where
+  lists : (y : ℕ) (Y : Conclusion) → ConclusionStands d (Literals y) Y → Lists d y Y
   unfolding ConclusionStands
-  lists (knows Y) there list =
-      let same = there.1.same in
-      record { is = ap knows (sym same); here = there.1.here; clear = subst (λ (xs : List ℕ). exclusive xs xs ≡ false) (sym same) there.1.clear }
-  lists (knows_whether f) there list = clash there.0 list
+  lists y (knows Y) there =
+      let same = there.same in
+      record { is = ap knows (sym same); here = there.here; clear = subst (λ (xs : List ℕ). exclusive xs xs ≡ false) (sym same) there.clear }
+  lists y (knows_whether f) there = absurd there
 
-  tells : (Y : Conclusion) → ConclusionStands d fluent y Y → fluent ≡ true → Tells d y Y
+  tells : (f : ℕ) (Y : Conclusion) → ConclusionStands d (Fluent f) Y → Tells f Y
   unfolding ConclusionStands
-  tells (knows Y) there whether = clash whether there.0
-  tells (knows_whether f) there whether =
-      let byte = there.2 in let below = there.3 in
-      record { is = ap knows_whether (sym byte); there = there.1; small = omega (arith, byte, below) }
+  tells f (knows Y) there = absurd there
+  tells f (knows_whether g) there =
+      let same = there.0 in let below = there.1 in
+      record { is = ap knows_whether (sym same); small = omega (arith, same, below) }
 
 module _ (d : List ℕ) (w : Spot) where
   -- A list.
-  module _ (list : w.fluent ≡ false) where
-    YLists : (l : Line) → Stands d w l → Lists d w.conclusion l.Y
-    YLists l sl = lists d w.conclusion w.fluent l.Y sl.Y list
+  module _ (y : ℕ) (list : w.conclusion ≡ Literals y) where
+    YLists : (l : Line) → Stands d w l → Lists d y l.Y
+    YLists l sl = lists d y l.Y (subst (λ (c : Concludes). ConclusionStands d c l.Y) list sl.Y)
 
-    pub YHere : SomeLine d w → ListHere all_literals d w.conclusion
+    pub YHere : SomeLine d w → ListHere all_literals d y
     YHere some = (YLists some.line some.stands).here
 
-    pub YClear : SomeLine d w → exclusive (listed d w.conclusion) (listed d w.conclusion) ≡ false
+    pub YClear : SomeLine d w → exclusive (listed d y) (listed d y) ≡ false
     YClear some = (YLists some.line some.stands).clear
 
-    YSame : (l : Line) → Stands d w l → (xs : List ℕ) → same_conclusion l.Y (knows xs) ≡ same_list (listed d w.conclusion) xs
+    YSame : (l : Line) → Stands d w l → (xs : List ℕ) → same_conclusion l.Y (knows xs) ≡ same_list (listed d y) xs
     unfolding same_conclusion
     YSame l sl xs = ap (λ (Y : Conclusion). same_conclusion Y (knows xs)) (YLists l sl).is
 
   -- A fluent.
-  module _ (whether : w.fluent ≡ true) where
-    YTells : (l : Line) → Stands d w l → Tells d w.conclusion l.Y
-    YTells l sl = tells d w.conclusion w.fluent l.Y sl.Y whether
+  module _ (f : ℕ) (whether : w.conclusion ≡ Fluent f) where
+    YTells : (l : Line) → Stands d w l → Tells f l.Y
+    YTells l sl = tells d f l.Y (subst (λ (c : Concludes). ConclusionStands d c l.Y) whether sl.Y)
 
-    pub fluent_there : SomeLine d w → w.conclusion < length d
-    fluent_there some = (YTells some.line some.stands).there
-
-    pub fluent_small : (f : ℕ) → f ≡ get_or d w.conclusion 0 → SomeLine d w → f < format.fluents
-    fluent_small f is some = let small = (YTells some.line some.stands).small in omega (arith, is, small)
+    pub fluent_small : (g : ℕ) → g ≡ f → SomeLine d w → g < format.fluents
+    fluent_small g is some = let small = (YTells some.line some.stands).small in omega (arith, is, small)
 
     YOther : (l : Line) → Stands d w l → (xs : List ℕ) → same_conclusion l.Y (knows xs) ≡ false
     unfolding same_conclusion
@@ -154,20 +151,20 @@ no_count d q e =
     let low = eqb-true (get_or d (q + 1) 0) 0 (both_right _ _ e) in
     omega (arith, high, low)
 
-pub empty_whether : (d : List ℕ) (w : Spot) → w.fluent ≡ true → Ruled d w rule_1 false
+pub empty_whether : (d : List ℕ) (w : Spot) (f : ℕ) → w.conclusion ≡ Fluent f → Ruled d w rule_1 false
 unfolding rule_1
-empty_whether d w whether = record { holds = λ l sl. no_right (same_plan l.c done) (same_conclusion l.Y (knows l.X)) (YOther d w whether l sl l.X) }
+empty_whether d w f whether = record { holds = λ l sl. no_right (same_plan l.c done) (same_conclusion l.Y (knows l.X)) (YOther d w f whether l sl l.X) }
 
 module _ (d : List ℕ) (w : Spot) (q : ℕ) (after : q ≡ sequence_place Flags d w.line) (none : Bool) (tested : none ≡ no_item d q) where
-  pub empty_same : (r : Bool) → w.fluent ≡ false → none ≡ true → r ≡ same_list (listed d w.conclusion) (listed d w.line) → Ruled d w rule_1 r
+  pub empty_same : (y : ℕ) → w.conclusion ≡ Literals y → (r : Bool) → none ≡ true → r ≡ same_list (listed d y) (listed d w.line) → Ruled d w rule_1 r
   unfolding rule_1
-  empty_same r list t is =
+  empty_same y list r t is =
       record {
         holds = λ l sl.
             let empty : own_items l.c ≡ 0 = sym (plan_of d w q after l sl).count ∙ no_count d q (sym tested ∙ t) in
             is
-            ∙ ap (same_list (listed d w.conclusion)) sl.X.same
-            ∙ sym (YSame d w list l sl l.X)
+            ∙ ap (same_list (listed d y)) sl.X.same
+            ∙ sym (YSame d w y list l sl l.X)
             ∙ sym (yes_left (same_plan l.c done) (same_conclusion l.Y (knows l.X)) (same_done l.c ∙ eq-eqb _ _ empty));
       }
 
@@ -202,12 +199,12 @@ module _ (d : List ℕ) (v w : Spot) where
   unfolding rule_6
   not_part never = record { holds = λ c l sc sl. no_right (included c.X l.X) _ (sym (no_right (same_plan c.c l.c) (part_of l.Y c.Y) (never c l sc sl))) }
 
-  pub part_of_whether : v.fluent ≡ true → RuledBy d v w rule_6 false
-  part_of_whether whether = not_part (λ c l sc sl. ap (part_of l.Y) (YTells d v whether c sc).is ∙ part_of_fluent l.Y (get_or d v.conclusion 0))
+  pub part_of_whether : (f : ℕ) → v.conclusion ≡ Fluent f → RuledBy d v w rule_6 false
+  part_of_whether f whether = not_part (λ c l sc sl. ap (part_of l.Y) (YTells d v f whether c sc).is ∙ part_of_fluent l.Y f)
 
-  pub whether_in_part : w.fluent ≡ true → RuledBy d v w rule_6 false
+  pub whether_in_part : (f : ℕ) → w.conclusion ≡ Fluent f → RuledBy d v w rule_6 false
   unfolding part_of
-  whether_in_part whether = not_part (λ c l sc sl. ap (λ (Y : Conclusion). part_of Y c.Y) (YTells d w whether l sl).is)
+  whether_in_part f whether = not_part (λ c l sc sl. ap (λ (Y : Conclusion). part_of Y c.Y) (YTells d w f whether l sl).is)
 
   module _ (starts : Bool) (first : starts ≡ included (listed d v.line) (listed d w.line)) where
     starts_is : (c l : Line) → Stands d v c → Stands d w l → starts ≡ included c.X l.X
@@ -228,13 +225,13 @@ module _ (d : List ℕ) (v w : Spot) where
             holds = λ c l sc sl. no_right (included c.X l.X) _ (sym (no_left (same_plan c.c l.c) (part_of l.Y c.Y) (sym (same_is c l sc sl) ∙ f)));
           }
 
-      pub ends_within : (answer : Bool) → v.fluent ≡ false → w.fluent ≡ false → same ≡ true → answer ≡ included (listed d w.conclusion) (listed d v.conclusion) → RuledBy d v w rule_6 answer
+      pub ends_within : (x y : ℕ) → v.conclusion ≡ Literals x → w.conclusion ≡ Literals y → (answer : Bool) → same ≡ true → answer ≡ included (listed d y) (listed d x) → RuledBy d v w rule_6 answer
       unfolding rule_6 part_of
-      ends_within answer from to u is =
+      ends_within x y from to answer u is =
           record {
             holds = λ c l sc sl.
                 is
-                ∙ sym (ap₂ {C = Bool} part_of (YLists d w to l sl).is (YLists d v from c sc).is)
+                ∙ sym (ap₂ {C = Bool} part_of (YLists d w y to l sl).is (YLists d v x from c sc).is)
                 ∙ sym (yes_left (same_plan c.c l.c) (part_of l.Y c.Y) (sym (same_is c l sc sl) ∙ u))
                 ∙ sym (yes_left (included c.X l.X) _ (sym (starts_is c l sc sl) ∙ t));
           }
@@ -257,11 +254,14 @@ module _ (d : List ℕ) (f p : ℕ) where
   literal_other (suc zero) other = literal_one ∙ by-test (eqb (get_or d p 0 / 2) f) (λ t. absurd (other (eqb-true _ _ t))) (λ e. e)
   literal_other (suc (suc more)) other = refl
 
-module _ (d : List ℕ) (v : Spot) (from : v.fluent ≡ false) (some : SomeLine d v) where
-  pub literals_there : v.conclusion < length d
-  literals_there = let ends = (YHere d v from some).ends in omega (arith, ends)
+module _ (d : List ℕ) (v : Spot) (x : ℕ) (from : v.conclusion ≡ Literals x) (some : SomeLine d v) where
+  pub literals_there : x < length d
+  literals_there = let ends = (YHere d v x from some).ends in omega (arith, ends)
 
-  pub literal_fits : Fits w64 (v.conclusion + 1)
+  pub first_there : get_or d x 0 ≡ 1 → x + 1 < length d
+  first_there one = let ends = (YHere d v x from some).ends in omega (arith, ends, one)
+
+  pub literal_fits : Fits w64 (x + 1)
   literal_fits = let there = literals_there in let long = some.long in record { fits = omega (arith, there, long) }
 
 -- Nothing settles a list.
@@ -275,48 +275,47 @@ module _ (d : List ℕ) (v w : Spot) where
   unfolding rule_8
   not_settled never = record { holds = λ c l sc sl. no_right (same_list c.X l.X) _ (sym (no_right (same_plan c.c l.c) (settles c.Y l.Y) (never c l sc sl))) }
 
-  pub settled_by_whether : v.fluent ≡ true → RuledBy d v w rule_8 false
+  pub settled_by_whether : (f : ℕ) → v.conclusion ≡ Fluent f → RuledBy d v w rule_8 false
   unfolding settles
-  settled_by_whether whether = not_settled (λ c l sc sl. ap (λ (Z : Conclusion). settles Z l.Y) (YTells d v whether c sc).is)
+  settled_by_whether f whether = not_settled (λ c l sc sl. ap (λ (Z : Conclusion). settles Z l.Y) (YTells d v f whether c sc).is)
 
-  pub list_settled : w.fluent ≡ false → RuledBy d v w rule_8 false
-  list_settled list = not_settled (λ c l sc sl. ap (settles c.Y) (YLists d w list l sl).is ∙ settles_list c.Y (listed d w.conclusion))
+  pub list_settled : (y : ℕ) → w.conclusion ≡ Literals y → RuledBy d v w rule_8 false
+  list_settled y list = not_settled (λ c l sc sl. ap (settles c.Y) (YLists d w y list l sl).is ∙ settles_list c.Y (listed d y))
 
   pub settled_elsewhere : (starts : Bool) → starts ≡ same_list (listed d v.line) (listed d w.line) → starts ≡ false → RuledBy d v w rule_8 false
   unfolding rule_8
   settled_elsewhere starts first e = record { holds = λ c l sc sl. no_left (same_list c.X l.X) _ (sym (XSame d v w starts first c l sc sl) ∙ e) }
 
-  -- The cited list against the fluent f.
-  module _ (from : v.fluent ≡ false) (to : w.fluent ≡ true) (f literals : ℕ) (told : f ≡ get_or d w.conclusion 0) (counted : literals ≡ get_or d v.conclusion 0) where
-    settles_is : (c l : Line) → Stands d v c → Stands d w l → settles c.Y l.Y ≡ one_literal f (bytes_from d (v.conclusion + 1) literals)
+  -- The cited list against the fluent.
+  module _ (x f : ℕ) (from : v.conclusion ≡ Literals x) (to : w.conclusion ≡ Fluent f) where
+    settles_is : (c l : Line) → Stands d v c → Stands d w l → settles c.Y l.Y ≡ one_literal f (bytes_from d (x + 1) (get_or d x 0))
     unfolding settles listed
-    settles_is c l sc sl = ap₂ {C = Bool} settles (YLists d v from c sc).is (YTells d w to l sl).is ∙ rw (told, counted)
+    settles_is c l sc sl = ap₂ {C = Bool} settles (YLists d v x from c sc).is (YTells d w f to l sl).is
 
-    pub not_one_literal : (literals ≡ 1 → ⊥) → RuledBy d v w rule_8 false
-    not_one_literal other = not_settled (λ c l sc sl. settles_is c l sc sl ∙ literals_other d f (v.conclusion + 1) literals other)
+    pub not_one_literal : (get_or d x 0 ≡ 1 → ⊥) → RuledBy d v w rule_8 false
+    not_one_literal other = not_settled (λ c l sc sl. settles_is c l sc sl ∙ literals_other d f (x + 1) (get_or d x 0) other)
 
-    module _ (literal : ℕ) (byte : literal ≡ get_or d (v.conclusion + 1) 0) where
-      pub other_fluent : (literal / 2 ≡ f → ⊥) → RuledBy d v w rule_8 false
-      other_fluent other = not_settled (λ c l sc sl. settles_is c l sc sl ∙ literal_other d f (v.conclusion + 1) literals (subst (λ (k : ℕ). k / 2 ≡ f → ⊥) byte other))
+    pub other_fluent : (get_or d (x + 1) 0 / 2 ≡ f → ⊥) → RuledBy d v w rule_8 false
+    other_fluent other = not_settled (λ c l sc sl. settles_is c l sc sl ∙ literal_other d f (x + 1) (get_or d x 0) other)
 
-      module _ (one : literals ≡ 1) (same_fluent : literal / 2 ≡ f) where
-        settles_so : (c l : Line) → Stands d v c → Stands d w l → settles c.Y l.Y ≡ true
-        settles_so c l sc sl =
-            settles_is c l sc sl
-            ∙ ap (λ (k : ℕ). one_literal f (bytes_from d (v.conclusion + 1) k)) one
-            ∙ literal_one d f (v.conclusion + 1)
-            ∙ eq-eqb _ _ (ap (λ (k : ℕ). k / 2) (sym byte) ∙ same_fluent)
+    module _ (one : get_or d x 0 ≡ 1) (same_fluent : get_or d (x + 1) 0 / 2 ≡ f) where
+      settles_so : (c l : Line) → Stands d v c → Stands d w l → settles c.Y l.Y ≡ true
+      settles_so c l sc sl =
+          settles_is c l sc sl
+          ∙ ap (λ (k : ℕ). one_literal f (bytes_from d (x + 1) k)) one
+          ∙ literal_one d f (x + 1)
+          ∙ eq-eqb _ _ same_fluent
 
-        pub settled : (starts : Bool) → starts ≡ same_list (listed d v.line) (listed d w.line) → starts ≡ true
-            → (r q : ℕ) → r ≡ sequence_place Flags d v.line → q ≡ sequence_place Flags d w.line → (same : Bool) → SamePlans d r v.end d q w.end same → RuledBy d v w rule_8 same
-        unfolding rule_8
-        settled starts first t r q given after same second =
-            record {
-              holds = λ c l sc sl.
-                  plans_are d v w r q given after same second c l sc sl
-                  ∙ sym (yes_right (same_plan c.c l.c) (settles c.Y l.Y) (settles_so c l sc sl))
-                  ∙ sym (yes_left (same_list c.X l.X) _ (sym (XSame d v w starts first c l sc sl) ∙ t));
-            }
+      pub settled : (starts : Bool) → starts ≡ same_list (listed d v.line) (listed d w.line) → starts ≡ true
+          → (r q : ℕ) → r ≡ sequence_place Flags d v.line → q ≡ sequence_place Flags d w.line → (same : Bool) → SamePlans d r v.end d q w.end same → RuledBy d v w rule_8 same
+      unfolding rule_8
+      settled starts first t r q given after same second =
+          record {
+            holds = λ c l sc sl.
+                plans_are d v w r q given after same second c l sc sl
+                ∙ sym (yes_right (same_plan c.c l.c) (settles c.Y l.Y) (settles_so c l sc sl))
+                ∙ sym (yes_left (same_list c.X l.X) _ (sym (XSame d v w starts first c l sc sl) ∙ t));
+          }
 
 -- RULES 5 and 11.
 plan_either_way : (b c : Sequence ℕ) → Tellable b → Tellable c → same_plan b c ≡ same_plan c b
@@ -326,11 +325,11 @@ plan_either_way b c t u =
     (λ e. coded_same b c t u (sym (same_own c b e)) (sym (same_bytes c b e)))
 
 module _ (d : List ℕ) (u v w : Spot) where
-  pub first_whether : u.fluent ≡ true → RuledByTwo d u v w rule_5 false
+  pub first_whether : (f : ℕ) → u.conclusion ≡ Fluent f → RuledByTwo d u v w rule_5 false
   unfolding rule_5
-  first_whether whether =
+  first_whether f whether =
       record {
-        holds = λ b c l sb sc sl. no_left _ _ (sym (no_right (same_list b.X l.X) (same_conclusion b.Y (knows c.X)) (YOther d u whether b sb c.X)));
+        holds = λ b c l sb sc sl. no_left _ _ (sym (no_right (same_list b.X l.X) (same_conclusion b.Y (knows c.X)) (YOther d u f whether b sb c.X)));
       }
 
   module _ (starts : Bool) (first : starts ≡ same_list (listed d u.line) (listed d w.line)) where
@@ -341,9 +340,9 @@ module _ (d : List ℕ) (u v w : Spot) where
           holds = λ b c l sb sc sl. no_left _ _ (sym (no_left (same_list b.X l.X) (same_conclusion b.Y (knows c.X)) (sym (XSame d u w starts first b l sb sl) ∙ f)));
         }
 
-    module _ (begin : starts ≡ true) (list : u.fluent ≡ false) (meets : Bool) (second : meets ≡ same_list (listed d u.conclusion) (listed d v.line)) where
+    module _ (begin : starts ≡ true) (y : ℕ) (list : u.conclusion ≡ Literals y) (meets : Bool) (second : meets ≡ same_list (listed d y) (listed d v.line)) where
       meets_is : (b c l : Line) → Stands d u b → Stands d v c → Stands d w l → meets ≡ same_conclusion b.Y (knows c.X)
-      meets_is b c l sb sc sl = second ∙ ap (same_list (listed d u.conclusion)) sc.X.same ∙ sym (YSame d u list b sb c.X)
+      meets_is b c l sb sc sl = second ∙ ap (same_list (listed d y)) sc.X.same ∙ sym (YSame d u y list b sb c.X)
 
       pub meets_apart : meets ≡ false → RuledByTwo d u v w rule_5 false
       unfolding rule_5
@@ -447,23 +446,23 @@ record OneAct (c : Sequence ℕ) (a : ℕ) : Type 0 where
 
 -- The conclusion is of the other kind.
 module _ (d : List ℕ) (w : Spot) (s : List ℕ) where
-  pub action_whether : w.fluent ≡ true → Ruled d w (rule_2 format (table_in Flags s)) false
+  pub action_whether : (f : ℕ) → w.conclusion ≡ Fluent f → Ruled d w (rule_2 format (table_in Flags s)) false
   unfolding rule_2 acts
-  action_whether whether =
+  action_whether f whether =
       record {
         holds = λ l sl.
             acts_never (table_in Flags s) l
-            (λ a. no_right (fails (sensing (table_in Flags s) a)) _ (sym (no_right (can_be_run (table_in Flags s) a (state_of format l.X)) _ (YOther d w whether l sl _))))
+            (λ a. no_right (fails (sensing (table_in Flags s) a)) _ (sym (no_right (can_be_run (table_in Flags s) a (state_of format l.X)) _ (YOther d w f whether l sl _))))
             l.c;
       }
 
-  pub look_lists : w.fluent ≡ false → Ruled d w (rule_7 format (table_in Flags s)) false
+  pub look_lists : (y : ℕ) → w.conclusion ≡ Literals y → Ruled d w (rule_7 format (table_in Flags s)) false
   unfolding rule_7 looks_for
-  look_lists list =
+  look_lists y list =
       record {
         holds = λ l sl.
             looks_never (table_in Flags s) l
-            (λ a. sym (ap (λ (Y : Conclusion). looks_for format (table_in Flags s) Y a (state_of format l.X)) (YLists d w list l sl).is))
+            (λ a. sym (ap (λ (Y : Conclusion). looks_for format (table_in Flags s) Y a (state_of format l.X)) (YLists d w y list l sl).is))
             l.c;
       }
 
@@ -563,29 +562,29 @@ module _ (d : List ℕ) (w : Spot) (q : ℕ) (after : q ≡ sequence_place Flags
                     ∙ sym (acts_is l sl);
               }
 
-          pub action_leads : w.fluent ≡ false → runs ≡ true → (next : State) → next ≡ state_after (table_in Flags s) a marks
-              → (r : Bool) → r ≡ same_list (listed d w.conclusion) (literals_of next) → Ruled d w (rule_2 format (table_in Flags s)) r
+          pub action_leads : (y : ℕ) → w.conclusion ≡ Literals y → runs ≡ true → (next : State) → next ≡ state_after (table_in Flags s) a marks
+              → (r : Bool) → r ≡ same_list (listed d y) (literals_of next) → Ruled d w (rule_2 format (table_in Flags s)) r
           unfolding acts fails
-          action_leads list t next then r is =
+          action_leads y list t next then r is =
               record {
                 holds = λ l sl.
                     is
-                    ∙ ap (λ (state : State). same_list (listed d w.conclusion) (literals_of state)) (then ∙ ap (state_after table a) (marks_are l sl))
-                    ∙ sym (YSame d w list l sl _)
+                    ∙ ap (λ (state : State). same_list (listed d y) (literals_of state)) (then ∙ ap (state_after table a) (marks_are l sl))
+                    ∙ sym (YSame d w y list l sl _)
                     ∙ sym (yes_left (can_be_run table a (state_of format l.X)) _ (sym (runs_is l sl) ∙ t))
                     ∙ sym (yes_left (fails (sensing table a)) _ (ap fails (sym tested ∙ f)))
                     ∙ sym (acts_is l sl);
               }
 
       -- It looks at the fluent f.
-      module _ (whether : w.fluent ≡ true) (s : List ℕ) (f : ℕ) (told : f ≡ get_or d w.conclusion 0) (looks : Bool) (looked : looks ≡ senses (knowledge_of (table_in Flags s) a) f) where
+      module _ (x : ℕ) (whether : w.conclusion ≡ Fluent x) (s : List ℕ) (f : ℕ) (told : f ≡ x) (looks : Bool) (looked : looks ≡ senses (knowledge_of (table_in Flags s) a) f) where
         looks_is : (l : Line) → Stands d w l → rule_7 format (table_in Flags s) l ≡ both looks (can_be_run (table_in Flags s) a (state_of format l.X))
         unfolding rule_7 looks_for
         looks_is l sl =
             let b = one_act l sl in
             ap (one_look format (table_in Flags s) l) b.is
             ∙ one_looks (table_in Flags s) l b.place a
-            ∙ ap (λ (Y : Conclusion). looks_for format (table_in Flags s) Y a (state_of format l.X)) (YTells d w whether l sl).is
+            ∙ ap (λ (Y : Conclusion). looks_for format (table_in Flags s) Y a (state_of format l.X)) (YTells d w x whether l sl).is
             ∙ ap (λ (x : Bool). both x (can_be_run (table_in Flags s) a (state_of format l.X))) (ap (senses (knowledge_of (table_in Flags s) a)) (sym told) ∙ sym looked)
 
         pub looks_elsewhere : looks ≡ false → Ruled d w (rule_7 format (table_in Flags s)) false

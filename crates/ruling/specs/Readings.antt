@@ -1,5 +1,5 @@
 -- What the functions of rules 3 and 10 answer: the readings of the unknown sensed fluents against the lines cited, one after the other.
-use Rattle.std.specs.Prelude.{ℕ, ◌+◌, ◌-◌, ◌*◌, ◌≤◌, ◌≡◌, Bool, true, List, [], ◌∷◌, map, length, get_or, ltb}
+use Rattle.std.specs.Prelude.{ℕ, ◌+◌, ◌-◌, ◌*◌, ◌≤◌, ◌≡◌, Bool, true, Option, Some, None, List, [], ◌∷◌, map, length, get_or, ltb}
 use Rattle.meaning.specs.declared.Form.TheVariants.{Flags}
 use Rattle.meaning.specs.declared.Layout.{Layout}
 use Rattle.meaning.specs.Tests.{both, pick, each_of}
@@ -9,8 +9,6 @@ use Rattle.meaning.specs.States.{State, readings}
 use Rattle.meaning.specs.Derivations.{Conclusion, Line, literals_of, says, states_of}
 use Rattle.finding.specs.Branches.{sequence_place}
 use Rattle.steps.specs.Steps.{unknown_above}
-use Rattle.ruling.specs.declared.readings.Used.{Used}
-use Rattle.ruling.specs.declared.readings.Used.TheVariants.{To, Fails}
 use Rattle.comparing.specs.declared.spots.Spot.{Spot}
 use Rattle.comparing.specs.Stands.{NumbersStand, ConclusionStands, Stands, LinesStand}
 use Rattle.comparing.specs.RuleAnswers.{ItemsStand}
@@ -23,10 +21,11 @@ lines_at lines other cites = map (λ (k : ℕ). get_or lines k other) cites
 unfoldable pub reads_at : Sequence ℕ → Conclusion → List Line → (other : Line) → State → (k : ℕ) → Bool
 reads_at rest Y cited other s k = both (ltb k (length cited)) (says (get_or cited k other) (literals_of s) rest Y)
 
--- Each state is said by the next line, the first by line k.
-unfoldable pub used : Sequence ℕ → Conclusion → List Line → (other : Line) → List State → (k : ℕ) → Used
-used rest Y cited other [] k = To k
-used rest Y cited other (s ∷ ss) k = pick (reads_at rest Y cited other s k) (λ _. used rest Y cited other ss (k + 1)) (λ _. Fails)
+-- Each state is said by the next line, the first by line k: how many lines are then used; none where a line does not say its state, or there is no
+-- line left.
+unfoldable pub used : Sequence ℕ → Conclusion → List Line → (other : Line) → List State → (k : ℕ) → Option ℕ
+used rest Y cited other [] k = Some k
+used rest Y cited other (s ∷ ss) k = pick (reads_at rest Y cited other s k) (λ _. used rest Y cited other ss (k + 1)) (λ _. None)
 
 -- The unknown sensed fluents where the first of them is f; none where it is the limit of fluents.
 unfoldable pub fluents_from : Table → ℕ → State → (f : ℕ) → List ℕ
@@ -51,7 +50,7 @@ rest_items d w = get_or d (sequence_place Flags d w.line) 0 * 256 + get_or d (se
 -- It stands there, and the line's conclusion.
 pub record Follows (d : List ℕ) (w : Spot) (rest : Sequence ℕ) (Y : Conclusion) : Type 0 where
   pub items : ItemsStand d (rest_first d w) w.end (rest_items d w) rest
-  pub concluded : ConclusionStands d w.fluent w.conclusion Y
+  pub concluded : ConclusionStands d w.conclusion Y
 
 pub record SomeFollows (d : List ℕ) (w : Spot) : Type 0 where
   pub rest : Sequence ℕ
@@ -81,6 +80,6 @@ pub record SomeRest (layout : Layout) (d places : List ℕ) (total : ℕ) (w : S
   pub stands : RestStands layout d places w lines rest Y cites
 
 -- The states are used up by the citations from k on.
-pub record Uses (layout : Layout) (d places : List ℕ) (w : Spot) (states : List State) (k : ℕ) (answer : Used) : Type 0 where
+pub record Uses (layout : Layout) (d places : List ℕ) (w : Spot) (states : List State) (k : ℕ) (answer : Option ℕ) : Type 0 where
   pub holds : (lines : List Line) (rest : Sequence ℕ) (Y : Conclusion) (cites : List ℕ) (other : Line) → RestStands layout d places w lines rest Y cites
       → answer ≡ used rest Y (lines_at lines other cites) other states k

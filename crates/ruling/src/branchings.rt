@@ -11,8 +11,9 @@ use comparing::plans::{count_of, joined_plans};
 use comparing::spots::{Spot, same_conclusions};
 use finding::branches::{next_item, next_place, sequence_of};
 use meaning::Form;
-use parsing::bytes::{Read, wide};
+use parsing::bytes::wide;
 use parsing::limits;
+use parsing::shapes::OfFlags;
 use reading::marks::{Marks, Test, each_holds, state_of};
 use reading::notes;
 use reading::notes::Notes;
@@ -23,15 +24,12 @@ fn after_branches(d: &[u8], t: &Notes, count: usize, place: usize, item: usize) 
     requires { BranchesHere Flags d.now t.now count place item }
     ensures { result ≡ branches_end d.now t.now count place item }
 {
-    let mut left = count;
     let mut p = place;
     let mut i = item;
-    while 0 < left {
+    for _ in 0..count {
         let q = next_place(Form::Flags, d, t, p, i);
-        let j = next_item(Form::Flags, d, t, p, i);
+        i = next_item(Form::Flags, d, t, p, i);
         p = q;
-        i = j;
-        left -= 1;
     }
     p
 }
@@ -51,30 +49,22 @@ fn some_branch(
     requires some_plan { SomePlan d.now cited yc }
     ensures { BranchTaken d.now t.now held.now first cited yc y more result }
 {
-    let second = first + 1;
-    let count = wide(d[second]);
-    let start = first + 2;
-    let rest = after_branches(d, t, count, start, 1);
-    let mut left = count;
-    let mut p = start;
+    let count = wide(d[first + 1]);
+    let rest = after_branches(d, t, count, first + 2, 1);
+    let mut p = first + 2;
     let mut i = 1;
-    while 0 < left {
+    for _ in 0..count {
         let q = next_place(Form::Flags, d, t, p, i);
         let j = next_item(Form::Flags, d, t, p, i);
-        let known = each_holds(Test::Known, held, d, p);
-        let sequence = sequence_of(Form::Flags, d, p);
-        p = q;
-        i = j;
-        left -= 1;
-        if known {
+        if each_holds(Test::Known, held, d, p) {
+            let sequence = sequence_of(Form::Flags, d, p);
             let items = count_of(d, sequence);
-            let a = sequence + 2;
-            let same = joined_plans(d, cited, yc, a, q, items, rest, y, more);
-            if same {
+            if joined_plans(d, cited, yc, sequence + 2, q, items, rest, y, more) {
                 return true;
             }
-            continue;
         }
+        p = q;
+        i = j;
     }
     false
 }
@@ -88,37 +78,19 @@ pub fn rule_4(n: usize, m: usize, d: &[u8], t: &mut Notes, cited: Spot, l: Spot)
     requires some_read { SomeRead n m d.now l }
     ensures { ReadBy n m d.now cited l rule_4 result }
 {
-    let pc = cited.line;
-    let p = l.line;
-    let starts = same_lists(d, pc, d, p);
-    if starts {
-        let ends = same_conclusions(d, cited, l);
-        if ends {
-            let plan = sequence_of(Form::Flags, d, p);
-            let count = count_of(d, plan);
-            if count == 0 {
-                return false;
-            }
-            let first = plan + 2;
-            if d[first] == limits::BRANCHING_BYTE {
-                notes::sized(t);
-                match plan_at(Form::Flags, n, m, d, plan, t) {
-                    Read::Value(_, _) => {
-                        let held = state_of(d, p);
-                        let given = sequence_of(Form::Flags, d, pc);
-                        let more = count - 1;
-                        let g = cited.end;
-                        let e = l.end;
-                        return some_branch(d, t, &held, first, given, g, e, more);
-                    }
-                    Read::Fault(_, _) => {
-                        return false;
-                    }
-                }
-            }
-            return false;
-        }
+    if !same_lists(d, cited.line, d, l.line) || !same_conclusions(d, cited, l) {
         return false;
     }
-    false
+    let plan = sequence_of(Form::Flags, d, l.line);
+    let count = count_of(d, plan);
+    if count == 0 || d[plan + 2] != limits::BRANCHING_BYTE {
+        return false;
+    }
+    notes::sized(t);
+    let Ok(_) = plan_at::<OfFlags>(n, m, d, plan, t) else {
+        return false;
+    };
+    let held = state_of(d, l.line);
+    let given = sequence_of(Form::Flags, d, cited.line);
+    some_branch(d, t, &held, plan + 2, given, cited.end, l.end, count - 1)
 }

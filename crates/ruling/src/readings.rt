@@ -3,7 +3,7 @@ ghost use Rattle.meaning.specs.Derivations.{rule_3};
 ghost use Rattle.meaning.specs.Limits.{format};
 ghost use Rattle.derivation.specs.DerivationRead.{plan_ends_slot};
 ghost use Rattle.steps.specs.Held.{table_in};
-ghost use Rattle.steps.specs.AtHand.{AtHand, Marked};
+ghost use Rattle.steps.specs.AtHand.{Marked};
 ghost use Rattle.comparing.specs.Stands.{spot_at};
 ghost use Rattle.comparing.specs.RuleAnswers.{SomeLine, SomeLines, CitedBelow, RuledByAll};
 ghost use Rattle.ruling.specs.Readings.{states_from, StandsSome, SomeFollows, SaysReading, SomeRest, Uses};
@@ -12,33 +12,17 @@ ghost use Rattle.meaning.specs.declared.Form.TheVariants.{Flags};
 use comparing::known::lists_known;
 use comparing::parts::same_part;
 use comparing::plans::count_of;
-use comparing::spots::{Spot, same_conclusions, spot_of};
+use comparing::spots::{Spot, cited_of, same_conclusions, spot_of};
 use derivation::derivations::Places;
 use finding::branches::sequence_of;
 use meaning::{Form, Layout};
-use parsing::bytes::{two, wide};
+use parsing::bytes::wide;
 use parsing::limits;
+use parsing::shapes::OfFlags;
 use reading::marks::{Marks, state_of};
-use reading::notes::Notes;
 use steps::actions::can_be_run;
+use steps::request::Request;
 use steps::sensing::{first_unknown, is_sensing, next_unknown};
-
-// This number of citations is used; or a cited line is not what its reading asks, or there is none left.
-#[derive(Clone, Copy)]
-pub enum Used {
-    To(usize),
-    Fails,
-}
-
-// One less; 0 where there is none.
-fn one_less(n: usize) -> usize
-    ensures { result ≡ n - 1 }
-{
-    if n == 0 {
-        return 0;
-    }
-    n - 1
-}
 
 // The line `cited` says what the state knows, what follows the first item of the line `own`, and that line's conclusion.
 fn says_reading(d: &[u8], marks: &Marks, own: Spot, cited: Spot) -> bool
@@ -48,29 +32,15 @@ fn says_reading(d: &[u8], marks: &Marks, own: Spot, cited: Spot) -> bool
     requires some_follows { SomeFollows d.now own }
     ensures { SaysReading d.now marks.now own cited result }
 {
-    let pc = cited.line;
-    let starts = lists_known(marks, d, pc);
-    if starts {
-        let p = own.line;
-        let mine = sequence_of(Form::Flags, d, p);
-        let all = count_of(d, mine);
-        let items = one_less(all);
-        let plan = sequence_of(Form::Flags, d, pc);
-        let count = count_of(d, plan);
-        if count != items {
-            return false;
-        }
-        let first = plan + 2;
-        let last = cited.end;
-        let from = mine + 3;
-        let to = own.end;
-        let same = same_part(&d[first..last], &d[from..to]);
-        if same {
-            return same_conclusions(d, cited, own);
-        }
+    if !lists_known(marks, d, cited.line) {
         return false;
     }
-    false
+    let mine = sequence_of(Form::Flags, d, own.line);
+    let plan = sequence_of(Form::Flags, d, cited.line);
+    if count_of(d, plan) != count_of(d, mine).saturating_sub(1) {
+        return false;
+    }
+    same_part(&d[plan + 2..cited.end], &d[mine + 3..own.end]) && same_conclusions(d, cited, own)
 }
 
 // Citation k of line i says the reading that the state has. Where the parts of line i stand is looked up each
@@ -83,37 +53,25 @@ fn one_reading(
     lines: usize,
     i: usize,
     k: usize,
-) -> Used
+) -> Option<usize>
     requires marked { Marked marks.now }
     requires i_lt_lines { i < lines }
     requires some_rest { SomeRest layout d.now places.now lines (spot_at layout d.now (get_or places.now i 0) (get_or places.now (plan_ends_slot + i) 0)) }
     ensures { Uses layout d.now places.now (spot_at layout d.now (get_or places.now i 0) (get_or places.now (plan_ends_slot + i) 0)) (marks.now ∷ []) k result }
 {
     let own = spot_of(layout, d, places, lines, i);
-    let counted = own.cites;
-    let count = wide(d[counted]);
-    if count <= k {
-        return Used::Fails;
+    if wide(d[own.cites]) <= k {
+        return None;
     }
-    let twice = 2 * k;
-    let cites = counted + 1;
-    let at = cites + twice;
-    let second = at + 1;
-    let number = two(d[at], d[second]);
-    let cited = spot_of(layout, d, places, lines, number);
-    let says = says_reading(d, marks, own, cited);
-    if says {
-        return Used::To(k + 1);
-    }
-    Used::Fails
+    let cited = cited_of(layout, d, places, lines, own, k);
+    says_reading(d, marks, own, cited).then_some(k + 1)
 }
 
 // The readings of fluent f and of the unknown ones above it that action a senses, in order, by the citations of line i from k on. At the
 // limit of fluents there is none, and the state is a reading.
 fn each_reading(
     layout: Layout,
-    s: &[u8],
-    t: &Notes,
+    r: &Request<OfFlags>,
     d: &[u8],
     places: &Places,
     a: usize,
@@ -122,75 +80,54 @@ fn each_reading(
     lines: usize,
     i: usize,
     k: usize,
-) -> Used
-    requires at_hand { AtHand Flags s.now t.now }
+) -> Option<usize>
     requires a_lt_actions { a < format.actions }
     requires marked { Marked marks }
     requires i_lt_lines { i < lines }
     requires some_rest { SomeRest layout d.now places.now lines (spot_at layout d.now (get_or places.now i 0) (get_or places.now (plan_ends_slot + i) 0)) }
-    ensures { Uses layout d.now places.now (spot_at layout d.now (get_or places.now i 0) (get_or places.now (plan_ends_slot + i) 0)) (states_from (table_in Flags s.now) a marks f) k result }
+    ensures { Uses layout d.now places.now (spot_at layout d.now (get_or places.now i 0) (get_or places.now (plan_ends_slot + i) 0)) (states_from (table_in Flags r.now.bytes.now) a marks f) k result }
 {
-    if f < limits::FLUENTS {
-        let above = f + 1;
-        let mut state = marks;
-        state[f] = limits::TRUE_MARK;
-        let g = next_unknown(Form::Flags, s, t, a, above, &state);
-        match each_reading(layout, s, t, d, places, a, g, state, lines, i, k) {
-            Used::To(j) => {
-                state[f] = limits::FALSE_MARK;
-                return each_reading(layout, s, t, d, places, a, g, state, lines, i, j);
-            }
-            Used::Fails => return Used::Fails,
-        }
+    if limits::FLUENTS <= f {
+        return one_reading(layout, d, places, &marks, lines, i, k);
     }
-    one_reading(layout, d, places, &marks, lines, i, k)
+    let mut state = marks;
+    state[f] = limits::TRUE_MARK;
+    let g = next_unknown(r, a, f + 1, &state);
+    let j = each_reading(layout, r, d, places, a, g, state, lines, i, k)?;
+    state[f] = limits::FALSE_MARK;
+    each_reading(layout, r, d, places, a, g, state, lines, i, j)
 }
 
 // Rules 3 and 10, for line i: a sensing action first that can be run in X; one line for each reading in the walk's order: X with the
 // reading, the rest, and the line's own conclusion.
 pub fn rule_3(
     layout: Layout,
-    s: &[u8],
-    t: &Notes,
+    r: &Request<OfFlags>,
     d: &[u8],
     places: &Places,
     lines: usize,
     i: usize,
     l: Spot,
 ) -> bool
-    requires at_hand { AtHand Flags s.now t.now }
     requires some_line { SomeLine d.now l }
     requires some_lines { SomeLines layout d.now places.now lines }
     requires i_lt_lines { i < lines }
     requires l_value { l ≡ spot_at layout d.now (get_or places.now i 0) (get_or places.now (plan_ends_slot + i) 0) }
     requires cited_below { CitedBelow d.now l lines }
-    ensures { RuledByAll layout d.now places.now l (rule_3 format (table_in Flags s.now)) result }
+    ensures { RuledByAll layout d.now places.now l (rule_3 format (table_in Flags r.now.bytes.now)) result }
 {
-    let p = l.line;
-    let plan = sequence_of(Form::Flags, d, p);
-    let count = count_of(d, plan);
-    if count == 0 {
+    let plan = sequence_of(Form::Flags, d, l.line);
+    if count_of(d, plan) == 0 || d[plan + 2] == limits::BRANCHING_BYTE {
         return false;
     }
-    let first = plan + 2;
-    if d[first] == limits::BRANCHING_BYTE {
+    let a = wide(d[plan + 2]);
+    if !is_sensing(r, a) {
         return false;
     }
-    let a = wide(d[first]);
-    let sensing = is_sensing(Form::Flags, s, t, a);
-    if sensing {
-        let marks = state_of(d, p);
-        let runs = can_be_run(s, t, a, &marks);
-        if runs {
-            let f = first_unknown(Form::Flags, s, t, a, &marks);
-            let counted = l.cites;
-            let cited = wide(d[counted]);
-            match each_reading(layout, s, t, d, places, a, f, marks, lines, i, 0) {
-                Used::To(k) => return k == cited,
-                Used::Fails => return false,
-            }
-        }
+    let marks = state_of(d, l.line);
+    if !can_be_run(r, a, &marks) {
         return false;
     }
-    false
+    let f = first_unknown(r, a, &marks);
+    each_reading(layout, r, d, places, a, f, marks, lines, i, 0) == Some(wide(d[l.cites]))
 }

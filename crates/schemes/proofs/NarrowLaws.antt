@@ -6,10 +6,11 @@ use mathlib.Core.Path.{◌≡◌, refl, sym, ◌∙◌, ap, subst}
 use mathlib.Core.Bool.{true, false}
 use mathlib.Core.List.{List, [], ◌∷◌}
 use mathlib.Core.Logic.{⊎_elim}
-use lib.ListN.{length, get_or, set, replicate}
+use lib.ListN.{length, set}
 use lib.Dec.{ltb}
 use lib.Seq.{set-set}
 use borrow.Author.Tests.{ltb-true, ltb-false, lt-ltb, le-ltb}
+use Rattle.std.specs.Prelude.{Option, None, Some}
 use Rattle.meaning.specs.Limits
 use Rattle.meaning.specs.Limits.{format}
 use Rattle.meaning.specs.Requests.{Table, Sequence, Branches, none, branch}
@@ -19,15 +20,12 @@ use Rattle.meaning.specs.Walk.{Concerned, in_state, fine, stopped, Walked, Verif
 use Rattle.meaning.specs.Schemes.{too_wide, narrow_does, narrow_step}
 use Rattle.meaning.proofs.TestLaws.{by-test, pick_true, pick_false}
 use Rattle.meaning.proofs.Sound.{counted_verified, then_verified}
-use Rattle.finding.specs.declared.places.Found.{Found}
-use Rattle.finding.specs.declared.places.Found.TheVariants.{Nowhere, At}
 use Rattle.steps.specs.Held.{table_in, plan_in, request_in}
 use Rattle.steps.specs.AtHand.{Marked}
 use Rattle.steps.specs.Rests.{rest_at, after_first}
 use Rattle.steps.specs.Steps.{unknown_above, first_of, Followed, Takes, Taken, TakesNone, Untaken, Chosen}
 use Rattle.steps.proofs.OnwardLaws.{walk_join}
 use Rattle.steps.proofs.LookLaws.{first_marked, second_marked, told_true, told_false, unknown_after_set, unknown_first, unknown_no_first, sensed_first, sensed_no_first}
-use Rattle.writing.specs.Progress.{cite_slots}
 use Rattle.schemes.specs.Narrow.{narrow_from, NarrowFrom, fluents_from, narrow_readings, NarrowReadings, Acts}
 use Rattle.meaning.specs.declared.Form.TheVariants.{Flags}
 
@@ -137,8 +135,9 @@ module _ (s t : List ℕ) (i a : ℕ) (acts : Acts s t i a) (marks : State) (goo
 
 -- Rule 3 has citations enough for its readings.
 pub sensing_few : (s t : List ℕ) (i a : ℕ) → Acts s t i a → (marks : State) → NarrowFrom s t i marks → Marked marks → (f : ℕ) → f ≡ first_of (unknown_sensed (table_in Flags s) a marks)
-    → get_or (replicate cite_slots 0) 0 0 + 2 ^ length (fluents_from s a f marks) ≤ format.citations
-sensing_few s t i a acts marks good marked f first =
+    → (cites : List ℕ) → cites ≡ [] → length cites + 2 ^ length (fluents_from s a f marks) ≤ format.citations
+sensing_few s t i a acts marks good marked f first cites empty =
+    let long = ap length empty in
     let few : length (fluents_from s a f marks) ≤ 6 = rw (fluents_sensed s a marks f marked first) (action_few s t i a acts marks good) in
     let most : 2 ^ length (fluents_from s a f marks) ≤ 2 ^ 6 = pow-le-pow_right {n = 2} (omega arith) few in
     omega arith
@@ -220,9 +219,9 @@ module _ (s t : List ℕ) (i : ℕ) (marks : State) (good : NarrowFrom s t i mar
       good in
       let z : ◌≡◌ {A = ℕ} 0 1 = cc in omega arith
 
-  module _ (r : Found) (chosen : Chosen Flags s t i marks r) where
-    pub chosen_good : (at : ℕ) → r ≡ At at → NarrowFrom s t at marks
+  module _ (r : Option ℕ) (chosen : Chosen Flags s t i marks r) where
+    pub chosen_good : (at : ℕ) → r ≡ Some at → NarrowFrom s t at marks
     chosen_good at is = taken_good at (chosen.takes at is)
 
-    pub some_chosen : r ≡ Nowhere → ⊥
+    pub some_chosen : r ≡ None → ⊥
     some_chosen is = some_taken (chosen.stays is)

@@ -1,9 +1,9 @@
 -- The two passes: the lines from the first position on are those of the derivation, and with their number before them they are its bytes. Assumes nothing.
 use Prim.Native.Nat.{ℕ, ◌+◌, ◌/◌, ◌%◌, ◌≤◌, ◌<◌}
 use native.Mathlib.Omega.{arith}
-use mathlib.Core.Path.{◌≡◌, refl, sym, ◌∙◌, ap, ap₂}
+use mathlib.Core.Path.{◌≡◌, sym, ◌∙◌, ap, ap₂}
 use mathlib.Core.List.{List, ◌++◌, append-nil}
-use lib.ListN.{length, length-append, get_or, set, drop, replicate}
+use lib.ListN.{length, length-append, get_or, set, drop}
 use lib.Seq.{sets, sets-eq}
 use lib.Dec.{ltb}
 use borrow.Author.Tests.{ltb-true, ltb-false}
@@ -21,7 +21,8 @@ use Rattle.steps.specs.Held.{plan_in, request_in}
 use Rattle.steps.specs.AtHand.{AtHand}
 use Rattle.steps.specs.Rests.{rest_at, start}
 use Rattle.steps.proofs.FirstLaws.{rest_first, first_flags, at_is}
-use Rattle.writing.specs.Progress.{so_far, add, line_count, byte_count, standing, progress_slots, Underway}
+use Rattle.writing.specs.declared.lines.Progress.{Progress}
+use Rattle.writing.specs.Progress.{so_far, add, standing, Underway}
 use Rattle.writing.proofs.ProgressLaws.{add_within, add_above, stands_over, stands_so_far, over_stands}
 use Rattle.steps.proofs.StoreLaws.{store_before, stores_behind}
 use Rattle.schemes.specs.declared.scheme.Size.{Size}
@@ -31,26 +32,27 @@ use Rattle.schemes.specs.Sizes.{Lined, Measured}
 use Rattle.meaning.specs.declared.Form.TheVariants.{Flags}
 
 -- THE START: no line, behind two bytes.
-pub opens_underway : Underway (set (replicate progress_slots 0) 1 2)
-unfolding line_count byte_count
-opens_underway = record { sized = refl; few = omega arith; short = omega arith }
+abbrev opening : Progress
+opening = record { lines = 0; end = 2 }
 
-opens : (room : List ℕ) → standing (set (replicate progress_slots 0) 1 2) room ≡ so_far 0 2 room
-unfolding line_count byte_count
-opens room = stands_so_far (set (replicate progress_slots 0) 1 2) room (omega arith)
+pub opens_underway : Underway opening
+opens_underway = record { few = omega arith; short = omega arith }
+
+opens : (room : List ℕ) → standing opening room ≡ so_far 0 2 room
+opens room = stands_so_far opening room (omega arith)
 
 -- What stands so far.
-module _ (progress room : List ℕ) (n b : ℕ) (other : List ℕ) (is : standing progress room ≡ so_far n b other) where
-  stands_as : so_far (line_count progress) (byte_count progress) room ≡ so_far n b other
+module _ (progress : Progress) (room : List ℕ) (n b : ℕ) (other : List ℕ) (is : standing progress room ≡ so_far n b other) where
+  stands_as : so_far progress.lines progress.end room ≡ so_far n b other
   stands_as =
-      by-test (ltb format.lines (line_count progress))
+      by-test (ltb format.lines progress.lines)
       (λ u. let never = sym (stands_over progress room (ltb-true _ _ u)) ∙ is in let z : ◌≡◌ {A = ℕ} 0 1 = cc in absurd (omega arith))
       (λ u. sym (stands_so_far progress room (ltb-false _ _ u)) ∙ is)
 
-  lines_are : line_count progress ≡ n
+  lines_are : progress.lines ≡ n
   lines_are = let same = stands_as in cc
 
-  bytes_end : byte_count progress ≡ b
+  bytes_end : progress.end ≡ b
   bytes_end = let same = stands_as in cc
 
   room_is : room ≡ other
@@ -69,9 +71,8 @@ module _ (s t : List ℕ) (here : AtHand Flags s t) (items at : ℕ) (counted : 
   unfolding lines_at derivation_of request_in
   whole_lines = rw (whole_left, first_flags s t here marks is)
 
-  pub plan_lined : (room progress room' : List ℕ) → Put (lines_at s t at marks (line_count (set (replicate progress_slots 0) 1 2))) (set (replicate progress_slots 0) 1 2) room progress room'
-      → Lined (derivation_of format (request_in Flags s t)) room (record { lines = get_or progress 0 0; bytes = get_or progress 1 0 }) room'
-  unfolding line_count byte_count
+  pub plan_lined : (room : List ℕ) (progress : Progress) (room' : List ℕ) → Put (lines_at s t at marks 0) opening room progress room'
+      → Lined (derivation_of format (request_in Flags s t)) room (record { lines = progress.lines; bytes = progress.end }) room'
   plan_lined room progress room' put =
       let ls : List Line = derivation_of format (request_in Flags s t) in
       let puts : standing progress room' ≡ add (so_far 0 2 room) ls = put.stands ∙ ap₂ add (opens room) whole_lines in

@@ -7,13 +7,12 @@ use mathlib.Core.List.{List}
 use lib.ListN.{get_or, set}
 use lib.Dec.{ltb}
 use borrow.Author.Tests.{ltb-true, ltb-false}
+use Rattle.std.specs.Prelude.{Option, Some}
 use Rattle.meaning.specs.Limits.{format}
 use Rattle.meaning.specs.States.{State}
 use Rattle.meaning.specs.Lines.{sensing}
 use Rattle.meaning.proofs.TestLaws.{by-test}
 use Rattle.reading.specs.Planned.{items_of}
-use Rattle.finding.specs.declared.places.Found.{Found}
-use Rattle.finding.specs.declared.places.Found.TheVariants.{At}
 use Rattle.steps.specs.Held.{table_in, plan_in}
 use Rattle.steps.specs.AtHand.{AtHand, Marked}
 use Rattle.steps.specs.Rests.{rest_at, after_first, Position}
@@ -49,7 +48,7 @@ module _ (s t : List ℕ) (i at μ : ℕ) (is : item_measure i ≡ μ) (follows 
   pub sensing_falls : (f : ℕ) → readings_measure at f < μ
   sensing_falls f = let later = follows.later in omega arith
 
-pub chosen_falls : (s t : List ℕ) (i : ℕ) (marks : State) (r : Found) (at μ : ℕ) → item_measure i ≡ μ → Chosen Flags s t i marks r → r ≡ At at → from_measure at < μ
+pub chosen_falls : (s t : List ℕ) (i : ℕ) (marks : State) (r : Option ℕ) (at μ : ℕ) → item_measure i ≡ μ → Chosen Flags s t i marks r → r ≡ Some at → from_measure at < μ
 chosen_falls s t i marks r at μ is chosen taken = let later = chosen.later at taken in omega arith
 
 -- A reading is followed by the readings of a higher fluent, or by the position.
@@ -68,7 +67,7 @@ readings_fall s a at f μ marks is small marked g next =
 pub followed_position : (s t : List ℕ) (i at : ℕ) → Followed Flags s t i at → Position (plan_in Flags s t) at
 followed_position s t i at follows = follows.at
 
-pub chosen_position : (s t : List ℕ) (i : ℕ) (marks : State) (r : Found) (at : ℕ) → Chosen Flags s t i marks r → r ≡ At at → Position (plan_in Flags s t) at
+pub chosen_position : (s t : List ℕ) (i : ℕ) (marks : State) (r : Option ℕ) (at : ℕ) → Chosen Flags s t i marks r → r ≡ Some at → Position (plan_in Flags s t) at
 chosen_position s t i marks r at chosen taken = chosen.at at taken
 
 pub item_position : (s t : List ℕ) → AtHand Flags s t → (i : ℕ) → i < items_of (plan_in Flags s t) → Position (plan_in Flags s t) i

@@ -157,6 +157,12 @@ module _ (s t : List ℕ) (a : ℕ) (marks : State) (best fewest k : ℕ) (nears
       near_kept not = record { ahead = line_others _ t run_lines k nears.ahead more j onward; same = near_whole ∙ ap Short (pick_false _ _ _ (le-ltb _ _ not)) }
 
 -- WHETHER IT CAN BE RUN.
+none_allows : (r : Runs) → ((p : ℕ) → r ≡ By p → ⊥) → false ≡ allows r
+unfolding allows
+none_allows (By p) other = absurd (other p refl)
+none_allows (Short p) other = refl
+none_allows Never other = refl
+
 module _ (s : List ℕ) (a : ℕ) (marks : State) (r : Runs) (is : r ≡ asked (table_in Flags s) a marks) where
   runs_is : can_be_run (table_in Flags s) a marks ≡ allows r
   runs_is = can_be_run_asked (table_in Flags s) a marks ∙ ap allows (sym is)
@@ -165,13 +171,8 @@ module _ (s : List ℕ) (a : ℕ) (marks : State) (r : Runs) (is : r ≡ asked (
   unfolding allows
   runs_by p e = sym (runs_is ∙ ap allows e)
 
-  pub runs_short : (p : ℕ) → r ≡ Short p → false ≡ can_be_run (table_in Flags s) a marks
-  unfolding allows
-  runs_short p e = sym (runs_is ∙ ap allows e)
-
-  pub runs_never : r ≡ Never → false ≡ can_be_run (table_in Flags s) a marks
-  unfolding allows
-  runs_never e = sym (runs_is ∙ ap allows e)
+  pub runs_other : ((p : ℕ) → r ≡ By p → ⊥) → false ≡ can_be_run (table_in Flags s) a marks
+  runs_other other = none_allows r other ∙ sym runs_is
 
 -- EFFECTS.
 abbrev pub EffectsAhead : (s t : List ℕ) (k : ℕ) → Type 0

@@ -1,11 +1,12 @@
 -- The flags of the open fluents of an action: the loop over a body, the loops along its lines, and what a flag then says. Assumes nothing.
-use Prim.Native.Nat.{ℕ, ◌+◌, ◌-◌, ◌/◌, ◌≤◌, ◌<◌}
+use Prim.Native.Nat.{ℕ, suc, ◌+◌, ◌/◌, ◌≤◌, ◌<◌}
 use native.Mathlib.Omega.{arith}
 use mathlib.Core.Path.{◌≡◌, refl, sym, ◌∙◌, ap}
 use mathlib.Core.Bool.{Bool, true, false}
 use mathlib.Core.List.{List, [], ◌∷◌}
-use lib.ListN.{length, get_or, set, replicate, length-set, get_or-replicate, length-replicate}
-use lib.Seq.{get_or-set_same, get_or-set_other}
+use mathlib.Core.Logic.{inl, inr}
+use lib.ListN.{length, get_or, set, drop, replicate, length-set, drop_of_length-le, get_or-replicate, length-replicate}
+use lib.Seq.{get_or-set_same, get_or-set_other, drop-cons}
 use lib.Dec.{eqb}
 use mir.Syntax.{w64}
 use mir.Val.{Fits}
@@ -18,42 +19,45 @@ use Rattle.meaning.specs.ByCases.{in_body, in_bodies}
 use Rattle.meaning.proofs.TestLaws.{by-test, pick_true, pick_false, pick_map}
 use Rattle.meaning.proofs.PickLaws.{pick_has}
 use Rattle.reading.specs.Noted.{effect_lines, run_lines, line_place, next_line, first_line}
-use Rattle.reading.specs.Listed.{bytes_from, listed, ListHere}
-use Rattle.reading.proofs.MarkLaws.{list_starts, entry_next, entry_last}
+use Rattle.reading.specs.Listed.{listed, ListHere}
 use Rattle.finding.proofs.AheadLaws.{Ahead, ahead_starts, ahead_none, ahead_first, line_others, line_rest, line_fit}
 use Rattle.steps.specs.Held.{table_in}
 use Rattle.steps.specs.LinesFound.{run_places, effect_places}
 use Rattle.steps.specs.AtHand.{AtHand, Marked}
-use Rattle.steps.specs.Flags.{flagged, flagged_at, OpenFlags}
+use Rattle.steps.specs.Flags.{flagged, flagged_at, HasBodies, places_of, OpenFlags}
+use Rattle.steps.proofs.SliceLaws.{entries, slice_listed, slice_below}
 use Rattle.steps.proofs.Served.{runs_at_hand, effects_at_hand}
 use Rattle.steps.proofs.LookLaws.{unmarked_unknown, marked_known}
 use Rattle.meaning.specs.declared.Form.TheVariants.{Flags}
 
--- ONE BODY, that stands at p: flagged the entries from the one at i on, the flags are the whole's.
-abbrev pub FlagsAhead : (marks s : List ℕ) (p end : ℕ) (whole flags : List ℕ) (i : ℕ) → Type 0
-FlagsAhead marks s p end whole flags i = (p < i) × (whole ≡ flagged marks (bytes_from s i (end - i)) flags)
+-- ONE BODY: flagged its literals from number i on, the flags are the whole's.
+pub record FlagsAhead (marks ls whole flags : List ℕ) (i : ℕ) : Type 0 where
+  pub is : whole ≡ flagged marks (drop i ls) flags
 
-pub flags_start : (s : List ℕ) (p : ℕ) → ListHere all_literals s p → (x end : ℕ) → x ≡ get_or s p 0 → end ≡ p + 1 + x → (marks flags : State)
-    → FlagsAhead marks s p end (flagged marks (listed s p) flags) flags (p + 1)
-flags_start s p here x end byte is marks flags = (omega arith, ap (λ (ls : List ℕ). flagged marks ls flags) (sym (list_starts s p here x end byte is)))
+pub flags_start : (s : List ℕ) (p : ℕ) → ListHere all_literals s p → (x : ℕ) → x ≡ get_or s p 0 → (marks flags : State)
+    → FlagsAhead marks (entries s p x) (flagged marks (listed s p) flags) flags 0
+flags_start s p here x byte marks flags = record { is = ap (λ (ls : List ℕ). flagged marks ls flags) (slice_listed all_literals s p here x byte) }
 
-module _ (marks s : List ℕ) (p end : ℕ) (whole flags : List ℕ) (i : ℕ) (so_far : FlagsAhead marks s p end whole flags i) where
-  module _ (more : i < end) (l : ℕ) (entry : l ≡ get_or s i 0) where
-    flag_step : (after : List ℕ) → pick (eqb (get_or marks (l / 2) 0) 0) (λ _. set flags (l / 2) 1) (λ _. flags) ≡ after → FlagsAhead marks s p end whole after (i + 1)
+pub flag_near : (s : List ℕ) (p : ℕ) → ListHere all_literals s p → (x : ℕ) → x ≡ get_or s p 0 → (i : ℕ) → i < length (entries s p x) → (l : ℕ) → l ≡ get_or (entries s p x) i 0 → l / 2 < format.fluents
+flag_near s p here x byte i more l entry = let below = slice_below all_literals s p here x byte i more l entry in omega arith
+
+module _ (marks ls whole flags : List ℕ) (i : ℕ) (so_far : FlagsAhead marks ls whole flags i) where
+  module _ (more : i < length ls) (l : ℕ) (entry : l ≡ get_or ls i 0) where
+    flag_step : (after : List ℕ) → pick (eqb (get_or marks (l / 2) 0) 0) (λ _. set flags (l / 2) 1) (λ _. flags) ≡ after → FlagsAhead marks ls whole after (i + 1)
     unfolding flagged fluent_of
     flag_step after is =
-        let behind = so_far.0 in
-        (omega arith, so_far.1 ∙ rw (entry_next s end i more, ← entry) (ap (flagged marks (bytes_from s (i + 1) (end - (i + 1)))) is))
+        let up : suc i ≡ i + 1 = omega arith in
+        record { is = so_far.is ∙ rw (drop-cons ls i 0 more, ← entry, up) (ap (flagged marks (drop (i + 1) ls)) is) }
 
-    pub flag_set : get_or marks (l / 2) 0 ≡ 0 → FlagsAhead marks s p end whole (set flags (l / 2) 1) (i + 1)
+    pub flag_set : get_or marks (l / 2) 0 ≡ 0 → FlagsAhead marks ls whole (set flags (l / 2) 1) (i + 1)
     flag_set e = flag_step (set flags (l / 2) 1) (pick_true _ _ _ (eq-eqb _ _ e))
 
-    pub flag_kept : (get_or marks (l / 2) 0 ≡ 0 → ⊥) → FlagsAhead marks s p end whole flags (i + 1)
+    pub flag_kept : (get_or marks (l / 2) 0 ≡ 0 → ⊥) → FlagsAhead marks ls whole flags (i + 1)
     flag_kept some = flag_step flags (pick_false _ _ _ (ne_eqb _ _ some))
 
-  pub flags_done : end ≤ i → flags ≡ whole
+  pub flags_done : length ls ≤ i → flags ≡ whole
   unfolding flagged
-  flags_done h = sym (so_far.1 ∙ rw (entry_last s end i h))
+  flags_done h = sym (so_far.is ∙ rw (drop_of_length-le ls {i = i} h))
 
 -- ALONG AN ACTION'S LINES, whose bodies stand so many bytes behind their places.
 abbrev pub BodiesAhead : (s t : List ℕ) (lines behind k : ℕ) → Type 0
@@ -63,20 +67,30 @@ pub record Flagging (s t : List ℕ) (lines behind : ℕ) (marks flags whole : L
   pub ahead : BodiesAhead s t lines behind k
   pub same : whole ≡ flagged_at s marks behind ahead.rest flags
 
-module _ (s t : List ℕ) (a k : ℕ) (here : AtHand Flags s t) (small : a < format.actions) (marks flags : State) where
-  pub effects_start : k ≡ first_line t effect_lines a → Flagging s t effect_lines 2 marks flags (flagged_at s marks 2 (effect_places Flags s a) flags) k
-  unfolding ahead_starts
-  effects_start at = record {
-    ahead = ahead_starts (λ (p : ℕ). ListHere all_literals s (p + 2)) t effect_lines a (effect_places Flags s a) (here.effects a small) (λ p h. ((effects_at_hand s t here a).lines p h).body) k at;
-    same = refl;
-  }
+-- The section of effects, or that of executability lines.
+effect_section : (s : List ℕ) (a : ℕ) → places_of effect_lines s a ≡ effect_places Flags s a
+unfolding places_of
+effect_section s a = pick_true _ _ _ (eq-eqb effect_lines effect_lines refl)
 
-  pub runs_start : k ≡ first_line t run_lines a → Flagging s t run_lines 1 marks flags (flagged_at s marks 1 (run_places Flags s a) flags) k
+run_section : (s : List ℕ) (a : ℕ) → places_of run_lines s a ≡ run_places Flags s a
+unfolding places_of
+run_section s a = pick_false _ _ _ (ne_eqb run_lines effect_lines (λ e. omega arith))
+
+module _ (s t : List ℕ) (a : ℕ) (here : AtHand Flags s t) (small : a < format.actions) (marks flags : State) where
+  pub lines_start : (lines behind k : ℕ) → HasBodies lines behind → k ≡ first_line t lines a → Flagging s t lines behind marks flags (flagged_at s marks behind (places_of lines s a) flags) k
   unfolding ahead_starts
-  runs_start at = record {
-    ahead = ahead_starts (λ (p : ℕ). ListHere all_literals s (p + 1)) t run_lines a (run_places Flags s a) (here.runs a small) (runs_at_hand s t here a).lines k at;
-    same = refl;
-  }
+  lines_start lines behind k (inl is) at =
+      rw (is.0, is.1, effect_section s a)
+      (record {
+        ahead = ahead_starts (λ (p : ℕ). ListHere all_literals s (p + 2)) t effect_lines a (effect_places Flags s a) (here.effects a small) (λ p h. ((effects_at_hand s t here a).lines p h).body) k (rw (sym is.0) at);
+        same = refl;
+      })
+  lines_start lines behind k (inr is) at =
+      rw (is.0, is.1, run_section s a)
+      (record {
+        ahead = ahead_starts (λ (p : ℕ). ListHere all_literals s (p + 1)) t run_lines a (run_places Flags s a) (here.runs a small) (runs_at_hand s t here a).lines k (rw (sym is.0) at);
+        same = refl;
+      })
 
 module _ (s t : List ℕ) (lines behind : ℕ) (marks flags whole : List ℕ) (k : ℕ) (flagging : Flagging s t lines behind marks flags whole k) where
   abbrev Fit : ℕ → Type 0
@@ -188,7 +202,13 @@ unmarked_is marks f marked =
 
 -- ALL BODIES of the action, from no flag on.
 module _ (s t : List ℕ) (a : ℕ) (marks one r : State) (here : AtHand Flags s t) (marked : Marked marks)
-    (first : one ≡ flagged_at s marks 2 (effect_places Flags s a) (replicate format.fluents 0)) (then : r ≡ flagged_at s marks 1 (run_places Flags s a) one) where
+    (first-flags : one ≡ flagged_at s marks 2 (places_of effect_lines s a) (replicate format.fluents 0)) (then-flags : r ≡ flagged_at s marks 1 (places_of run_lines s a) one) where
+  first : one ≡ flagged_at s marks 2 (effect_places Flags s a) (replicate format.fluents 0)
+  first = first-flags ∙ rw (effect_section s a)
+
+  then : r ≡ flagged_at s marks 1 (run_places Flags s a) one
+  then = then-flags ∙ rw (run_section s a)
+
   abbrev none : List ℕ
   none = replicate format.fluents 0
 

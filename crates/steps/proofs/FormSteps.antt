@@ -3,10 +3,7 @@ use Prim.Native.Nat.{ℕ}
 use mathlib.Core.Path.{◌≡◌, refl, sym, ◌∙◌, subst}
 use mathlib.Core.Bool.{Bool, true, false}
 use mathlib.Core.List.{List, []}
-use lib.ListN.{get_or}
-use borrow.Author.Tests.{eq-eqb, ne_eqb}
 use Rattle.meaning.specs.Tests.{pick}
-use Rattle.meaning.specs.Limits
 use Rattle.meaning.specs.Refusals.{nowhere, first_against}
 use Rattle.meaning.specs.declared.Form.{Form}
 use Rattle.meaning.specs.declared.Form.TheVariants.{Flags, Valued}
@@ -17,7 +14,6 @@ use Rattle.meaning.specs.ValueStates as Value
 use Rattle.meaning.proofs.TestLaws.{pick_true, pick_false, pick-cases}
 use Rattle.parsing.specs.Masks.{FewValues}
 use Rattle.parsing.proofs.LineReaderLaws.{counted_values}
-use Rattle.reading.specs.Noted.{mode_slot}
 use Rattle.valuing.specs.Valuing.{ValuedMarks}
 use Rattle.finding.specs.ValueLines.{ValueEffects, ValueRuns}
 use Rattle.finding.proofs.ValueLineLaws.{effect_stands, body_stands}
@@ -26,7 +22,7 @@ use Rattle.steps.specs.declared.cases.Tried.TheVariants.{Runs, Stuck, Many}
 use Rattle.steps.specs.Held.{table_in}
 use Rattle.steps.specs.AtHand.{AtHand, Marked, MarkedAs}
 use Rattle.steps.specs.LinesFound.{run_places, effect_places}
-use Rattle.steps.specs.Steps.{mode_in, does_in, after_in, tried_as, does_as, after_as, outcome_as, tries_as, values_mode, form_in, values_as}
+use Rattle.steps.specs.Steps.{mode_in, does_in, after_in, tried_as, does_as, after_as, outcome_as, tries_as, values_as}
 use Rattle.steps.proofs.HandLaws.{sections}
 use Rattle.steps.proofs.TriedLaws.{not_led}
 
@@ -49,11 +45,11 @@ module _ (form : Form) (s marks : List ℕ) (marked : MarkedAs form s marks) whe
 module _ (s t : List ℕ) (here : AtHand Valued s t) where
   pub hand_effects : ValueEffects s t
   unfolding effect_places
-  hand_effects = record { order = here.effects; line = effect_stands s (table_in Valued s) here.table_end (sections s t here) }
+  hand_effects = record { order = here.effects; line = effect_stands s (table_in Valued s) here.table.end (sections s t here) }
 
   pub hand_runs : ValueRuns s t
   unfolding run_places
-  hand_runs = record { order = here.runs; line = body_stands s (table_in Valued s) here.table_end (sections s t here) }
+  hand_runs = record { order = here.runs; line = body_stands s (table_in Valued s) here.table.end (sections s t here) }
 
   pub hand_values : FewValues s
   hand_values = counted_values Valued s refl (sections s t here).values
@@ -105,16 +101,6 @@ module _ (s t : List ℕ) (a : ℕ) (marks : State) where
 
     pub values_after : (r : State) → r ≡ Value.state_after (literals_in s) (table_in Valued s) a marks → r ≡ after_as form s t a marks
     values_after r e = rw is e
-
--- THE FORM of a walk, which its mode tells.
-module _ (t : List ℕ) (mode : ℕ) (is : mode ≡ get_or t mode_slot 0) where
-  pub form_values : mode ≡ values_mode → Valued ≡ form_in t
-  unfolding form_in mode_in
-  form_values e = sym (pick_true _ _ _ (eq-eqb _ values_mode (sym is ∙ e)))
-
-  pub form_flags : (mode ≡ values_mode → ⊥) → Flags ≡ form_in t
-  unfolding form_in mode_in
-  form_flags other = sym (pick_false _ _ _ (ne_eqb _ values_mode (λ e. other (is ∙ e))))
 
 -- How many values a fluent has.
 pub flags_count : (form : Form) (s : List ℕ) (f : ℕ) → form ≡ Flags → 2 ≡ values_as form s f

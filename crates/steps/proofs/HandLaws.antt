@@ -23,13 +23,13 @@ use Rattle.steps.specs.AtHand.{AtHand}
 
 module _ {form : Form} (s t : List ℕ) (here : AtHand form s t) where
   pub starts : Starts form s (table_in form s)
-  starts = table_starts form s (table_in form s) here.table_end here.table
+  starts = table_starts form s (table_in form s) here.table.end here.table.is
 
   pub facts_here : LiteralsHere form s (facts_place form s)
   facts_here = starts.here
 
-  pub sections : TableParts form s (table_in form s) here.table_end
-  sections = table_parts form s (table_in form s) here.table_end here.table
+  pub sections : TableParts form s (table_in form s) here.table.end
+  sections = table_parts form s (table_in form s) here.table.end here.table.is
 
   pub few_items : items_of (plan_in form s t) ≤ format.items
   few_items = here.held.few
@@ -55,4 +55,4 @@ module _ {form : Form} (s t : List ℕ) (here : AtHand form s t) where
       unfolding bound_of
       whether_here =
           let few = sections.few in
-          rw is_whether ((list_here Reading.fluents (table_in form s).fluents s format.listed (whether_in form s t) (listed s (whether_in form s t)) here.whether_end here.whether).1 format.fluents (omega (arith, few)))
+          rw is_whether ((list_here Reading.fluents (table_in form s).fluents s format.listed (whether_in form s t) (listed s (whether_in form s t)) here.whether.end here.whether.is).1 format.fluents (omega (arith, few)))

@@ -215,8 +215,7 @@ module _ {form : Form} (s t : List ℕ) (here : TableHere form s t) (g p : ℕ) 
       record {
         bytes = here.bytes;
         short = here.short;
-        table_end = here.table_end;
-        table = here.table;
+        table = record { end = here.table_end; is = here.table };
         effects = effects_ordered s here.bytes (table_in form s) here.table_end parts_there u stays.noted;
         runs = runs_ordered s here.bytes (table_in form s) here.table_end parts_there u stays.noted;
         senses = senses_there s u stays;
@@ -225,8 +224,7 @@ module _ {form : Form} (s t : List ℕ) (here : TableHere form s t) (g p : ℕ) 
         held = rw plan_is plan_held_there;
         nexts = rw plan_is request_nexts;
         goals = rw (table_is, goals_at, goals_listed, whether_at) each.goals;
-        whether_end = each.whether_end;
-        whether = rw (table_is, whether_at, whether_listed) each.whether;
+        whether = record { end = each.whether_end; is = rw (table_is, whether_at, whether_listed) each.whether };
         guards = rw guards_slot_is guards;
       }
 

@@ -10,6 +10,7 @@ pub mod JustRead
 pub mod SmallActions
 pub mod RestLaws
 pub mod Laid
+pub mod SliceLaws
 pub mod MissLaws
 pub mod OnwardLaws
 pub mod FirstLaws

@@ -8,8 +8,6 @@ use mathlib.Core.List.{List, [], ◌∷◌}
 use lib.ListN.{length, get_or, set, length-set}
 use lib.Seq.{get_or-set_other}
 use lib.Dec.{eqb, ltb}
-use mir.Syntax.{w64}
-use mir.Val.{Fits}
 use borrow.Author.Tests.{eqb-true, eq-eqb, lt-ltb, le-ltb, ltb-true}
 use Rattle.meaning.specs.Tests.{both, fails, pick, some_of, those_of}
 use Rattle.meaning.specs.Limits.{format}
@@ -18,7 +16,7 @@ use Rattle.meaning.specs.declared.Form.{Form}
 use Rattle.meaning.specs.declared.Form.TheVariants.{Flags, Valued}
 use Rattle.meaning.specs.Reading.{values_in, literals_in}
 use Rattle.meaning.specs.Values.{numbers, values_of}
-use Rattle.meaning.specs.States.{State, known_whether, unknown_sensed}
+use Rattle.meaning.specs.States.{State, known_whether}
 use Rattle.meaning.specs.ValueStates as Value
 use Rattle.meaning.proofs.TestLaws.{by-test, clash, same_test, both_left, both_right, both_true, fails_true, fails_false, pick_true, pick_false, some_has, has_some}
 use Rattle.meaning.proofs.ValueLaws.{has_numbers}
@@ -160,9 +158,6 @@ module _ {form : Form} (s t : List ℕ) (a : ℕ) (here : AtHand form s t) (smal
   module _ (end f : ℕ) (at : end ≡ get_or t (sensed_to + a) 0) (more : f < end) where
     pub fluent_near : f < format.fluents
     fluent_near = let last = served.last in omega arith
-
-    pub fluent_next_fits : Fits w64 (f + 1)
-    fluent_next_fits = let near = fluent_near in record { fits = omega arith }
 
   module _ (back : ℕ) (at : back ≡ get_or t (sensed_from + a) 0) where
     pub back_within : back ≤ format.fluents

@@ -11,6 +11,7 @@ use mir.Syntax.{w64}
 use mir.Val.{Fits}
 use lib.Dec.{leb}
 use borrow.Author.Tests.{le-leb, lt-leb, leb-true, leb-false}
+use Rattle.std.specs.Prelude.{Option, None, Some}
 use Rattle.meaning.specs.Tests.{each_of}
 use Rattle.meaning.specs.Limits.{format, all_literals}
 use Rattle.meaning.specs.Requests.{Sequence, done, item, Item, act, branching, Branches, none, branch}
@@ -24,14 +25,12 @@ use Rattle.reading.specs.declared.marks.Test.TheVariants.{Known}
 use Rattle.meaning.specs.Reading.{literals_in}
 use Rattle.meaning.specs.ValueStates as Value
 use Rattle.meaning.specs.declared.Form.TheVariants.{Flags, Valued}
-use Rattle.finding.specs.declared.places.Found as Code
-use Rattle.finding.specs.declared.places.Found.TheVariants.{Nowhere, At}
 use Rattle.meaning.specs.declared.Form.{Form}
 use Rattle.reading.specs.Planned.{items_of, bytes_of, place_of}
 use Rattle.reading.specs.Noted.{item_next, slots, around_from}
 use Rattle.finding.specs.PlansHeld.{own_items, branches_in, ItemWritten, BranchesWritten}
-use Rattle.finding.specs.Branches.{sequence_place, no_item, place_after, item_after, BranchesHere, ItemHere}
-use Rattle.finding.proofs.ByBranch.{branch_first, branches_next}
+use Rattle.finding.specs.Branches.{sequence_place, no_item, place_after, item_after, BranchHere, BranchesHere, ItemHere}
+use Rattle.finding.proofs.ByBranch.{branch_first, condition_first, branches_next}
 use Rattle.finding.proofs.PlanHere.{count_zero, count_some, some_item, place_is, item_is, plan_here}
 use Rattle.steps.specs.Held.{plan_in}
 use Rattle.steps.specs.AtHand.{AtHand}
@@ -260,26 +259,27 @@ module _ {form : Form} (s t : List ℕ) (here : AtHand form s t) (i : ℕ) (less
             stays = λ none_here. record { place = p; branches = bs; after = after; is = rest; none = none_here };
           }
 
-      pub choosing_starts : (start x : ℕ) → start ≡ get_or t (0 + i) 0 → x ≡ get_or s (start + 1) 0 → Choosing form s t i marks x (start + 2) (i + 1)
+      pub choosing_starts : (start x : ℕ) → start ≡ get_or t (0 + i) 0 → x ≡ get_or s (start + 1) 0 → Choosing form s t i marks (x - 0) (start + 2) (i + 1)
       choosing_starts start x starts counted =
           let l = laid s t here i less in
-          rw (counted, starts) (opened l.this l.after l.rest l.place l.written l.inside)
+          let all : x - 0 ≡ x = omega arith in
+          rw (all, counted, starts) (opened l.this l.after l.rest l.place l.written l.inside)
 
-AtSame : (a b : ℕ) → At a ≡ At b → a ≡ b
-AtSame a b e = ap (λ (r : Code.Found). elim r [ Nowhere ↦ 0 | At p ↦ p ]) e
+AtSame : (a b : ℕ) → Some a ≡ Some b → a ≡ b
+AtSame a b e = ap (λ (r : Option ℕ). elim r [ None ↦ 0 | Some p ↦ p ]) e
 
-Nowhere≢At : (a : ℕ) → Nowhere ≡ At a → ⊥
-Nowhere≢At a e = false≢true (ap (λ (r : Code.Found). elim r [ Nowhere ↦ false | At p ↦ true ]) e)
+None≢Some : (a : ℕ) → None ≡ Some a → ⊥
+None≢Some a e = false≢true (ap (λ (r : Option ℕ). elim r [ None ↦ false | Some p ↦ true ]) e)
 
 module _ {form : Form} (s t : List ℕ) (i : ℕ) (marks : State) where
   chosen_there : (r : ℕ) → walk_from form s t i marks ≡ walk_from form s t r marks → Taken (knows_as form s) marks (rest_at (plan_in form s t) i) (rest_at (plan_in form s t) r) → i < r → Position (plan_in form s t) r
-      → Chosen form s t i marks (At r)
+      → Chosen form s t i marks (Some r)
   unfolding going_on
   chosen_there r goes taken later position =
       record {
         goes = goes;
         takes = λ at e. subst (λ (n : ℕ). Taken (knows_as form s) marks (rest_at (plan_in form s t) i) (rest_at (plan_in form s t) n)) (AtSame r at e) taken;
-        stays = λ e. absurd (Nowhere≢At r (sym e));
+        stays = λ e. absurd (None≢Some r (sym e));
         later = λ at e. subst (λ (n : ℕ). i < n) (AtSame r at e) later;
         at = λ at e. subst (Position (plan_in form s t)) (AtSame r at e) position;
       }
@@ -289,9 +289,9 @@ module _ {form : Form} (s t : List ℕ) (i : ℕ) (marks : State) where
       condition_is : (c : List ℕ) → listed_as form s p ≡ c → each_of (knows_as form s marks) c ≡ known-here
       condition_is c e = rw (tested, sym e)
 
-      pub choosing_next : known-here ≡ false → (q j : ℕ) → q ≡ place_after form s t p met → j ≡ item_after form s t p met → Choosing form s t i marks (left - 1) q j
+      left_next : known-here ≡ false → (q j : ℕ) → q ≡ place_after form s t p met → j ≡ item_after form s t p met → Choosing form s t i marks (left - 1) q j
       unfolding branches_in BranchesWritten BranchesLaid walk_branch step_in Takes TakesNone
-      choosing_next fails q j placed counted = step choosing.branches choosing.count choosing.written choosing.laid choosing.goes choosing.leaves choosing.stays
+      left_next fails q j placed counted = step choosing.branches choosing.count choosing.written choosing.laid choosing.goes choosing.leaves choosing.stays
         where
           step : (bs : Branches ℕ) → left ≡ branches_in bs → BranchesWritten form s p bs → BranchesLaid form t (plan_in form s t) met p choosing.after bs
               → WalksBy form s t i marks choosing.after bs → Leaves form s t i marks choosing.after bs → Stays form s t i marks bs
@@ -316,13 +316,13 @@ module _ {form : Form} (s t : List ℕ) (i : ℕ) (marks : State) where
                 stays = λ none_here. stays (no, none_here);
               }
 
-      pub chosen_at : known-here ≡ true → (r : ℕ) → Into form s t i p met r → Chosen form s t i marks (At r)
+      left_at : known-here ≡ true → (r : ℕ) → Into form s t i p met r → Chosen form s t i marks (Some r)
       unfolding branches_in BranchesWritten BranchesLaid walk_branch step_in walk_from own_items items_of join Takes
-      chosen_at holds r into = by_branch choosing.branches choosing.count choosing.written choosing.laid choosing.goes choosing.leaves
+      left_at holds r into = by_branch choosing.branches choosing.count choosing.written choosing.laid choosing.goes choosing.leaves
         where
           by_branch : (bs : Branches ℕ) → left ≡ branches_in bs → BranchesWritten form s p bs → BranchesLaid form t (plan_in form s t) met p choosing.after bs
               → WalksBy form s t i marks choosing.after bs → Leaves form s t i marks choosing.after bs
-              → Chosen form s t i marks (At r)
+              → Chosen form s t i marks (Some r)
           by_branch none count w l goes leaves = absurd (omega (arith, more, count))
           by_branch (branch c done bs) count w l goes leaves =
               let follows = into.empty (count_zero s (sequence_place form s p) w.0.count) in
@@ -348,19 +348,43 @@ module _ {form : Form} (s t : List ℕ) (i : ℕ) (marks : State) where
               beyond
               (record { most = (branch_first form s t left p met more choosing.here).few; there = λ _. l.0.there some }))
 
-    pub chosen_none : left ≤ 0 → Chosen form s t i marks Nowhere
+    left_none : left ≤ 0 → Chosen form s t i marks None
     unfolding branches_in walk_branch going_on TakesNone
-    chosen_none over = record { goes = by_branch choosing.branches choosing.count choosing.goes; takes = λ at e. absurd (Nowhere≢At at e); stays = λ _. untaken choosing.branches choosing.count choosing.stays; later = λ at e. absurd (Nowhere≢At at e); at = λ at e. absurd (Nowhere≢At at e) }
+    left_none over = record { goes = by_branch choosing.branches choosing.count choosing.goes; takes = λ at e. absurd (None≢Some at e); stays = λ _. untaken choosing.branches choosing.count choosing.stays; later = λ at e. absurd (None≢Some at e); at = λ at e. absurd (None≢Some at e) }
       where
         by_branch : (bs : Branches ℕ) → left ≡ branches_in bs
             → WalksBy form s t i marks choosing.after bs
-            → walk_from form s t i marks ≡ going_on form s t (get_or t (0 + i) 0) marks Nowhere
+            → walk_from form s t i marks ≡ going_on form s t (get_or t (0 + i) 0) marks None
         by_branch none count goes = goes
         by_branch (branch c d bs) count goes = absurd (omega (arith, over, count))
 
         untaken : (bs : Branches ℕ) → left ≡ branches_in bs → Stays form s t i marks bs → Untaken (knows_as form s) marks (rest_at (plan_in form s t) i)
         untaken none count stays = stays tt
         untaken (branch c d bs) count stays = absurd (omega (arith, over, count))
+
+  -- The same of n branches, of which k are before p.
+  module _ (n k p met : ℕ) (choosing : Choosing form s t i marks (n - k) p met) where
+    pub chosen_none : n ≤ k → Chosen form s t i marks None
+    chosen_none over = left_none (n - k) p met choosing (omega arith)
+
+    module _ (more : k < n) where
+      some_left : 0 < n - k
+      some_left = omega arith
+
+      pub choosing_branch : BranchHere form s p met
+      choosing_branch = branch_first form s t (n - k) p met some_left choosing.here
+
+      pub choosing_condition : LiteralsHere form s p
+      choosing_condition = condition_first form s t (n - k) p met some_left choosing.here
+
+      module _ (known-here : Bool) (tested : known-here ≡ each_of (knows_as form s marks) (listed_as form s p)) where
+        pub choosing_next : known-here ≡ false → (q j : ℕ) → q ≡ place_after form s t p met → j ≡ item_after form s t p met → Choosing form s t i marks (n - (k + 1)) q j
+        choosing_next fails q j placed counted =
+            let less : n - (k + 1) ≡ n - k - 1 = omega arith in
+            rw less (left_next (n - k) p met choosing some_left known-here tested fails q j placed counted)
+
+        pub chosen_at : known-here ≡ true → (r : ℕ) → Into form s t i p met r → Chosen form s t i marks (Some r)
+        chosen_at holds r into = left_at (n - k) p met choosing some_left known-here tested holds r into
 
 -- FROM A POSITION. Nothing is left from the plan's end on.
 module _ {form : Form} (s t : List ℕ) (here : AtHand form s t) where

@@ -122,7 +122,7 @@ module _ (flags held : List ℕ) (k f : ℕ) (gathers : Gathering flags held k f
 -- THE OPEN FLUENTS are those with a flag.
 module _ (s t : List ℕ) (a : ℕ) (marks flags : State) (here : AtHand Flags s t) (open-are : OpenFlags (table_in Flags s) a marks flags) where
   ranged : Ranged format (table_in Flags s)
-  ranged = table_ranged format s 0 (table_in Flags s) here.table_end here.table
+  ranged = table_ranged format s 0 (table_in Flags s) here.table.end here.table.is
 
   abbrev is_open : ℕ → Bool
   is_open f = both (in_bodies (table_in Flags s) a f) (fails (known_whether marks f))

@@ -68,7 +68,6 @@ module _ (form : Form) (s t u : List ℕ) (same : (j : ℕ) → Other j → get_
         record {
           bytes = here.bytes;
           short = here.short;
-          table_end = here.table_end;
           table = here.table;
           effects = effects;
           runs = runs;
@@ -86,7 +85,6 @@ module _ (form : Form) (s t u : List ℕ) (same : (j : ℕ) → Other j → get_
           });
           nexts = rw same_plan (nexts_agree (plan_in form s t) format.items 0 t u (record { slot = λ j _ h. same (format.items + j) (omega arith) }) here.nexts);
           goals = rw (same_goals, same_whether) here.goals;
-          whether_end = here.whether_end;
           whether = rw same_whether here.whether;
           guards = rw same_guards here.guards;
         }

@@ -81,7 +81,7 @@ module _ (s t : List ℕ) (here : AtHand Flags s t) (a : ℕ) where
   pub runs_at_hand : RunLines s a
   unfolding run_places executability_of
   runs_at_hand =
-      let stands = run_stands s (table_in Flags s) here.table_end (sections s t here) in
+      let stands = run_stands s (table_in Flags s) here.table.end (sections s t here) in
       record {
         lines = λ p has.
             let w = those_placed (λ (r : Executability). r.place) (λ (r : Executability). eqb r.action a) (table_in Flags s).executability p has in
@@ -100,7 +100,7 @@ module _ (s t : List ℕ) (here : AtHand Flags s t) (a : ℕ) where
   pub effects_at_hand : Effects s a
   unfolding effect_places given_at given effects_of effect_from
   effects_at_hand =
-      let good = effect_good s (table_in Flags s) here.table_end (sections s t here) in
+      let good = effect_good s (table_in Flags s) here.table.end (sections s t here) in
       record {
         lines = λ p has.
             let w = those_placed (λ (e : Effect). e.place) (λ (e : Effect). eqb e.action a) (table_in Flags s).effects p has in

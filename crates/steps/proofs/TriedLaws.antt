@@ -7,10 +7,10 @@ use native.Mathlib.Nat.{not-suc-le-zero, le_of_suc-le-suc}
 use mathlib.Core.Path.{◌≡◌, refl, sym, ◌∙◌, ap, subst}
 use mathlib.Core.Bool.{Bool, true, false}
 use mathlib.Core.List.{List, [], ◌∷◌}
-use mathlib.Core.Logic.{inl, inr}
+use mathlib.Core.Logic.{◌⊎◌, inl, inr}
 use lib.ListN.{length, get_or, drop}
 use lib.Dec.{eqb}
-use borrow.Author.Tests.{eq-eqb, ne_eqb, lt-ltb, le-ltb, ltb-false}
+use borrow.Author.Tests.{eqb-true, eq-eqb, ne_eqb, lt-ltb, le-ltb, ltb-false}
 use Rattle.meaning.specs.Tests.{both, fails, pick, each_of, Has}
 use Rattle.meaning.specs.Limits
 use Rattle.meaning.specs.Limits.{format, most_open}
@@ -23,12 +23,14 @@ use Rattle.meaning.proofs.TestLaws.{both_right, fails_true, pick_true, pick_fals
 use Rattle.meaning.proofs.SensingLaws.{Distinct}
 use Rattle.meaning.proofs.FillLaws.{upward_within, upward_distinct, those_distinct, fills_run, fills_after, known_runs}
 use Rattle.reading.specs.Noted.{mode_slot}
+use Rattle.steps.specs.declared.trying.Mode.{Mode}
+use Rattle.steps.specs.declared.trying.Mode.TheVariants.{ByKnown, Narrow, Values, ByCases}
 use Rattle.steps.specs.declared.cases.Tried.{Tried}
 use Rattle.steps.specs.declared.cases.Tried.TheVariants.{Runs, Stuck, Many}
 use Rattle.steps.specs.Held.{table_in}
 use Rattle.steps.specs.AtHand.{AtHand, Marked}
 use Rattle.steps.specs.Opened.{open_in, Opened, Filling}
-use Rattle.steps.specs.Steps.{narrow_mode, mode_in, does_in, after_in, refused_in, tried_as}
+use Rattle.steps.specs.Steps.{narrow_mode, values_mode, mode_named, mode_in, does_in, after_in, refused_in, tried_as}
 use Rattle.steps.proofs.HandLaws.{sections}
 use Rattle.meaning.specs.declared.Form.TheVariants.{Flags}
 
@@ -119,12 +121,12 @@ module _ (s notes : List ℕ) (here : AtHand Flags s notes) (a : ℕ) (marks : S
       pub tried_known : (b : Bool) → b ≡ can_be_run t a marks → b ≡ true → cases_does t a marks ≡ tried_as 1 t a marks Runs
       tried_known b asked runs = not_many ∙ pick_true _ _ _ (known_runs t a marks (sym asked ∙ runs))
 
-      module _ (b : Bool) (asked : b ≡ each_of (can_be_run t a) (fillings (drop 0 (open_in held)) marks)) where
-        pub tried_filled : b ≡ true → cases_does t a marks ≡ tried_as 1 t a marks Runs
-        tried_filled runs = not_many ∙ pick_true _ _ _ (held_runs (few_open low) ∙ sym asked ∙ runs)
+      module _ (b v : Bool) (asked : b ≡ each_of (can_be_run t a) (fillings (drop 0 (open_in held)) marks)) (is-value : v ≡ b) where
+        pub tried_filled : v ≡ true → cases_does t a marks ≡ tried_as 1 t a marks Runs
+        tried_filled runs = not_many ∙ pick_true _ _ _ (held_runs (few_open low) ∙ sym asked ∙ sym is-value ∙ runs)
 
-        pub tried_stuck : b ≡ false → cases_does t a marks ≡ tried_as 1 t a marks Stuck
-        tried_stuck stuck = not_many ∙ pick_false _ _ _ (held_runs (few_open low) ∙ sym asked ∙ stuck)
+        pub tried_stuck : v ≡ false → cases_does t a marks ≡ tried_as 1 t a marks Stuck
+        tried_stuck stuck = not_many ∙ pick_false _ _ _ (held_runs (few_open low) ∙ sym asked ∙ sym is-value ∙ stuck)
 
   -- The state after it.
   module _ (few : too_many t a marks ≡ false) where
@@ -163,31 +165,73 @@ pub not_led : (n : ℕ) (c : Concerned State) (o : Outcome State) → refuses n 
 unfolding Led
 not_led n c o e = subst Led (sym e) tt
 
--- The number with which too many readings or cases are refused.
+-- What a number does as a mode.
+module _ (m : ℕ) where
+  named_known : m ≡ 0 → mode_named m ≡ ByKnown
+  unfolding mode_named
+  named_known e = pick_true _ _ _ (eq-eqb m 0 e)
+
+  named_narrow : m ≡ narrow_mode → mode_named m ≡ Narrow
+  unfolding mode_named pick
+  named_narrow e = rw e refl
+
+  known_named : mode_named m ≡ ByKnown → m ≡ 0
+  unfolding mode_named
+  known_named e =
+      pick-cases (eqb m 0) _ _ e (λ zero-mode _. eqb-true _ _ zero-mode)
+      (λ _ f. pick-cases (eqb m narrow_mode) _ _ f (λ _ g. absurd (cc)) (λ _ g. pick-cases (eqb m values_mode) _ _ g (λ _ h. absurd (cc)) (λ _ h. absurd (cc))))
+
+  narrow_named : mode_named m ≡ Narrow → m ≡ narrow_mode
+  unfolding mode_named
+  narrow_named e =
+      pick-cases (eqb m 0) _ _ e (λ _ f. absurd (cc))
+      (λ _ f. pick-cases (eqb m narrow_mode) _ _ f (λ narrow _. eqb-true _ _ narrow) (λ _ g. pick-cases (eqb m values_mode) _ _ g (λ _ h. absurd (cc)) (λ _ h. absurd (cc))))
+
+  pub named_values : m ≡ values_mode → mode_named m ≡ Values
+  unfolding mode_named pick
+  named_values e = rw e refl
+
+-- The mode of the notes.
 module _ (notes : List ℕ) (mode : ℕ) (is : mode ≡ get_or notes mode_slot 0) where
-  in_narrow : mode ≡ narrow_mode → mode_in notes ≡ narrow_mode
+  at_mode : mode_named mode ≡ mode_named (mode_in notes)
   unfolding mode_in
-  in_narrow narrow = sym is ∙ narrow
+  at_mode = ap mode_named is
 
-  not_narrow : (mode ≡ narrow_mode → ⊥) → eqb (mode_in notes) narrow_mode ≡ false
-  unfolding mode_in
-  not_narrow wide = ne_eqb _ narrow_mode (λ e. wide (is ∙ e))
+  pub mode_known : mode ≡ 0 → ByKnown ≡ mode_named (mode_in notes)
+  mode_known e = sym (named_known mode e) ∙ at_mode
 
-  pub refused_narrow : mode ≡ narrow_mode → Limits.sensing_too_wide ≡ refused_in (mode_in notes)
+  pub mode_narrow : mode ≡ narrow_mode → Narrow ≡ mode_named (mode_in notes)
+  mode_narrow e = sym (named_narrow mode e) ∙ at_mode
+
+  pub mode_values : mode ≡ values_mode → Values ≡ mode_named (mode_in notes)
+  mode_values e = sym (named_values mode e) ∙ at_mode
+
+  pub mode_cases : (mode ≡ 0 → ⊥) → (mode ≡ narrow_mode → ⊥) → (mode ≡ values_mode → ⊥) → ByCases ≡ mode_named (mode_in notes)
+  unfolding mode_named
+  mode_cases known narrow valued = sym (pick_false _ _ _ (ne_eqb _ 0 known) ∙ pick_false _ _ _ (ne_eqb _ narrow_mode narrow) ∙ pick_false _ _ _ (ne_eqb _ values_mode valued)) ∙ at_mode
+
+-- The number with which too many readings or cases are refused.
+module _ (notes : List ℕ) (mode : Mode) (is : mode ≡ mode_named (mode_in notes)) where
+  in_narrow : mode ≡ Narrow → mode_in notes ≡ narrow_mode
+  in_narrow narrow = narrow_named _ (sym is ∙ narrow)
+
+  not_narrow : (mode ≡ Narrow → ⊥) → eqb (mode_in notes) narrow_mode ≡ false
+  not_narrow wide = ne_eqb _ narrow_mode (λ e. wide (is ∙ named_narrow _ e))
+
+  pub refused_narrow : mode ≡ Narrow → Limits.sensing_too_wide ≡ refused_in (mode_in notes)
   unfolding refused_in pick
   refused_narrow narrow = ap refused_in (sym (in_narrow narrow))
 
-  pub refused_many : (mode ≡ narrow_mode → ⊥) → Limits.too_many_cases ≡ refused_in (mode_in notes)
+  pub refused_many : (mode ≡ Narrow → ⊥) → Limits.too_many_cases ≡ refused_in (mode_in notes)
   unfolding refused_in
   refused_many wide = sym (pick_false _ _ _ (not_narrow wide))
 
 -- What an action does.
-module _ (notes : List ℕ) (t : Table) (a : ℕ) (marks : State) (mode : ℕ) (is : mode ≡ get_or notes mode_slot 0) where
+module _ (notes : List ℕ) (t : Table) (a : ℕ) (marks : State) (mode : Mode) (is : mode ≡ mode_named (mode_in notes)) where
   -- By what is known.
-  module _ (zero-mode : mode ≡ 0) where
+  module _ (plain : mode ≡ ByKnown) where
     by_known : eqb (mode_in notes) 0 ≡ true
-    unfolding mode_in
-    by_known = eq-eqb _ 0 (sym is ∙ zero-mode)
+    by_known = eq-eqb _ 0 (known_named _ (sym is ∙ plain))
 
     known_does : does_in (mode_in notes) t a marks ≡ pick (can_be_run t a marks) (λ _. tried_as (mode_in notes) t a marks Runs) (λ _. tried_as (mode_in notes) t a marks Stuck)
     unfolding does_in tried_as after_in table_does outcome pick
@@ -199,16 +243,16 @@ module _ (notes : List ℕ) (t : Table) (a : ℕ) (marks : State) (mode : ℕ) (
     pub known_stuck : (b : Bool) → b ≡ can_be_run t a marks → b ≡ false → does_in (mode_in notes) t a marks ≡ tried_as (mode_in notes) t a marks Stuck
     known_stuck b asked stuck = known_does ∙ pick_false _ _ _ (sym asked ∙ stuck)
 
-    pub known_can : does_in (mode_in notes) t a marks ≡ tried_as (mode_in notes) t a marks Runs → can_be_run t a marks ≡ true
+    known_can : does_in (mode_in notes) t a marks ≡ tried_as (mode_in notes) t a marks Runs → can_be_run t a marks ≡ true
     unfolding tried_as
     known_can does = pick-cases (can_be_run t a marks) _ _ (sym known_does ∙ does) (λ e _. e) (λ _ e. absurd (not_led _ _ _ e))
 
-    pub known_after_in : (r : State) → r ≡ state_after t a marks → r ≡ after_in (mode_in notes) t a marks
+    known_after_in : (r : State) → r ≡ state_after t a marks → r ≡ after_in (mode_in notes) t a marks
     unfolding after_in
     known_after_in r at = at ∙ sym (pick_true _ _ _ by_known)
 
   -- The same, unless it is too wide.
-  module _ (narrow : mode ≡ narrow_mode) where
+  module _ (narrow : mode ≡ Narrow) where
     by_narrow : mode_in notes ≡ narrow_mode
     by_narrow = in_narrow notes mode is narrow
 
@@ -219,21 +263,28 @@ module _ (notes : List ℕ) (t : Table) (a : ℕ) (marks : State) (mode : ℕ) (
     pub narrow_tried : (r : Tried) → narrow_does t a marks ≡ tried_as narrow_mode t a marks r → does_in (mode_in notes) t a marks ≡ tried_as (mode_in notes) t a marks r
     narrow_tried r does = narrow_do ∙ does ∙ ap (λ (m : ℕ). tried_as m t a marks r) (sym by_narrow)
 
-    pub narrow_can : does_in (mode_in notes) t a marks ≡ tried_as (mode_in notes) t a marks Runs → can_be_run t a marks ≡ true
+    narrow_can : does_in (mode_in notes) t a marks ≡ tried_as (mode_in notes) t a marks Runs → can_be_run t a marks ≡ true
     unfolding tried_as narrow_does table_does
     narrow_can does =
         pick-cases (too_wide t a marks) _ _ (sym narrow_do ∙ does) (λ _ e. absurd (not_led _ _ _ e))
         (λ _ e. pick-cases (can_be_run t a marks) _ _ e (λ runs _. runs) (λ _ q. absurd (not_led _ _ _ q)))
 
-    pub narrow_after_in : (r : State) → r ≡ state_after t a marks → r ≡ after_in (mode_in notes) t a marks
+    narrow_after_in : (r : State) → r ≡ state_after t a marks → r ≡ after_in (mode_in notes) t a marks
     unfolding after_in pick
     narrow_after_in r at = at ∙ ap (λ (m : ℕ). after_in m t a marks) (sym by_narrow)
 
+  -- In these two the state after it is found alike.
+  module _ (no-cases : (mode ≡ ByKnown) ⊎ (mode ≡ Narrow)) where
+    pub plain_can : does_in (mode_in notes) t a marks ≡ tried_as (mode_in notes) t a marks Runs → can_be_run t a marks ≡ true
+    plain_can does = elim no-cases [ inl plain ↦ known_can plain does | inr narrow ↦ narrow_can narrow does ]
+
+    pub plain_after_in : (r : State) → r ≡ state_after t a marks → r ≡ after_in (mode_in notes) t a marks
+    plain_after_in r at = elim no-cases [ inl plain ↦ known_after_in plain r at | inr narrow ↦ narrow_after_in narrow r at ]
+
   -- By cases.
-  module _ (other : mode ≡ 0 → ⊥) (wide : mode ≡ narrow_mode → ⊥) where
+  module _ (other : mode ≡ ByKnown → ⊥) (wide : mode ≡ Narrow → ⊥) where
     not_known : eqb (mode_in notes) 0 ≡ false
-    unfolding mode_in
-    not_known = ne_eqb _ 0 (λ e. other (is ∙ e))
+    not_known = ne_eqb _ 0 (λ e. other (is ∙ named_known _ e))
 
     cases_do : does_in (mode_in notes) t a marks ≡ cases_does t a marks
     unfolding does_in

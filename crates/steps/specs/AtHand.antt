@@ -7,7 +7,7 @@ use Rattle.meaning.specs.Requests.{Table}
 use Rattle.meaning.specs.Values.{contradictory}
 use Rattle.meaning.specs.declared.Form.{Form}
 use Rattle.meaning.specs.declared.Form.TheVariants.{Flags, Valued}
-use Rattle.meaning.specs.Reading.{got, fluents, list_at, literals_at, literals_in, plan_at, table_at}
+use Rattle.meaning.specs.Reading.{Got, got, fluents, list_at, literals_at, literals_in, plan_at, table_at}
 use Rattle.reading.specs.Noted.{effect_lines, run_lines, plan_slot, items_slot}
 use Rattle.reading.specs.Ordered.{InOrder}
 use Rattle.reading.specs.Listed.{listed, ListHere, listed_as}
@@ -27,13 +27,17 @@ abbrev pub GuardsHere : Form → List ℕ → (g : ℕ) → Type 0
 GuardsHere Flags s g = eqb g 0 ≡ false → ListHere all_literals s g
 GuardsHere Valued s g = g ≡ 0
 
+-- This was read, up to some place.
+pub record Ends {A : Type 0} (read : Got A) (x : A) : Type 0 where
+  pub end : ℕ
+  pub is : read ≡ got x end
+
 pub record AtHand (form : Form) (s t : List ℕ) : Type 0 where
   -- The input has bytes, and no more of them than a request may have.
   pub bytes : (i : ℕ) → get_or s i 0 < 256
   pub short : length s ≤ format.request
   -- Sections 1 to 5 stand at the start, and the notes lead to each action's lines in file order and to what it senses.
-  pub table_end : ℕ
-  pub table : table_at format form s 0 ≡ got (table_in form s) table_end
+  pub table : Ends (table_at format form s 0) (table_in form s)
   pub effects : (a : ℕ) → a < format.actions → InOrder t effect_lines a (effect_places form s a)
   pub runs : (a : ℕ) → a < format.actions → InOrder t run_lines a (run_places form s a)
   pub senses : (a : ℕ) → a < format.actions → Senses form s t a
@@ -45,8 +49,7 @@ pub record AtHand (form : Form) (s t : List ℕ) : Type 0 where
   pub nexts : Nexts t format.items 0 (plan_in form s t)
   -- The goals stand where their slot says, and the whether entries behind them.
   pub goals : literals_at form (table_in form s).fluents format.listed s (goals_in t) ≡ got (listed_as form s (goals_in t)) (whether_in form s t)
-  pub whether_end : ℕ
-  pub whether : list_at fluents (table_in form s).fluents format.listed s (whether_in form s t) ≡ got (listed s (whether_in form s t)) whether_end
+  pub whether : Ends (list_at fluents (table_in form s).fluents format.listed s (whether_in form s t)) (listed s (whether_in form s t))
   pub guards : GuardsHere form s (guards_at t)
 
 -- Each of the marks is one of the three.

@@ -3,6 +3,7 @@ pub mod Small
 pub mod LinesFound
 pub mod Rests
 pub mod AtHand
+pub mod HandProp
 pub mod Flags
 pub mod Opened
 pub mod Steps

@@ -1,4 +1,5 @@
 -- What the steps of the walk answer, in the terms of the definitions.
+use Rattle.std.specs.Prelude.{Option, None, Some}
 use Rattle.std.specs.Prelude.{ℕ, ◌+◌, ◌-◌, ◌<◌, ◌≡◌, List, [], ◌∷◌, Bool, true, false, ◌⊎◌, length, get_or, drop, eqb, ltb}
 use Rattle.meaning.specs.Tests.{both, fails, pick, each_of, those_of}
 use Rattle.meaning.specs.Limits
@@ -18,10 +19,10 @@ use Rattle.meaning.specs.ByCases.{after_cases, cases_does}
 use Rattle.meaning.specs.Schemes.{narrow_does}
 use Rattle.reading.specs.Noted.{item_place, mode_slot}
 use Rattle.finding.specs.Branches.{sequence_place, no_item}
-use Rattle.finding.specs.declared.places.Found as Code
-use Rattle.finding.specs.declared.places.Found.TheVariants.{Nowhere, At}
 use Rattle.steps.specs.declared.goals.Asked.{Asked}
 use Rattle.steps.specs.declared.goals.Asked.TheVariants.{Goal, Whether}
+use Rattle.steps.specs.declared.trying.Mode.{Mode}
+use Rattle.steps.specs.declared.trying.Mode.TheVariants.{ByKnown, Narrow, Values, ByCases}
 use Rattle.steps.specs.declared.cases.Tried.{Tried}
 use Rattle.steps.specs.declared.cases.Tried.TheVariants.{Runs, Stuck, Many}
 use Rattle.steps.specs.Held.{table_in, plan_in, guards_in, request_in}
@@ -68,6 +69,17 @@ met_as asked = elim asked [ Goal ↦ known | Whether ↦ has_mark ]
 -- THE MODE of the walk: 0 goes by what is known, 2 does so too but refuses a sensing action that is too wide (FORMAT 24.4), and of a request of flags every other number goes by cases (FORMAT 22.1). With 3 the request has values (FORMAT 26.1), and `does_as` does not ask the mode.
 abbrev pub narrow_mode : ℕ
 narrow_mode = 2
+
+abbrev pub values_mode : ℕ
+values_mode = 3
+
+-- What a number does as a mode.
+unfoldable pub mode_named : ℕ → Mode
+mode_named m =
+    pick (eqb m 0) (λ _. ByKnown) λ _.
+    pick (eqb m narrow_mode) (λ _. Narrow) λ _.
+    pick (eqb m values_mode) (λ _. Values) λ _.
+    ByCases
 
 unfoldable pub mode_in : List ℕ → ℕ
 mode_in t = get_or t mode_slot 0
@@ -162,13 +174,6 @@ met_from form s t at = meet (step_in form s t) (walk_from form s t at)
 unfoldable pub walk_held : Form → (s t : List ℕ) → Walked State
 walk_held form s t = meet (step_in form s t) (walk (step_in form s t) (plan_in form s t) (judged_in form s t)) (first_in form s)
 
--- THE FORM that a walk goes by: that of values in a mode of its own.
-abbrev pub values_mode : ℕ
-values_mode = 3
-
-unfoldable pub form_in : List ℕ → Form
-form_in t = pick (eqb (mode_in t) values_mode) (λ _. Valued) (λ _. Flags)
-
 -- The position after item i.
 pub record Followed (form : Form) (s t : List ℕ) (i r : ℕ) : Type 0 where
   pub later : i < r
@@ -181,8 +186,8 @@ pub record Into (form : Form) (s t : List ℕ) (i p item r : ℕ) : Type 0 where
   pub other : no_item s (sequence_place form s p) ≡ false → r ≡ item
 
 -- The position where the walk goes on from the branching that is item i, or none.
-unfoldable pub going_on : Form → (s t : List ℕ) → (place : ℕ) → State → Code.Found → Walked State
-going_on form s t p marks r = elim r [ Nowhere ↦ stuck_at p marks | At at ↦ walk_from form s t at marks ]
+unfoldable pub going_on : Form → (s t : List ℕ) → (place : ℕ) → State → Option ℕ → Walked State
+going_on form s t p marks r = elim r [ None ↦ stuck_at p marks | Some at ↦ walk_from form s t at marks ]
 
 -- The branch that is chosen in a state: the first whose condition is known true (FORMAT 7.25).
 unfoldable pub Takes : (knows : State → ℕ → Bool) → State → Branches ℕ → Sequence ℕ → Type 0
@@ -211,9 +216,9 @@ pub record Untaken (knows : State → ℕ → Bool) (s : State) (c : Sequence �
   pub is : c ≡ item (branching place branches) after
   pub none : TakesNone knows s branches
 
-pub record Chosen (form : Form) (s t : List ℕ) (i : ℕ) (marks : State) (r : Code.Found) : Type 0 where
+pub record Chosen (form : Form) (s t : List ℕ) (i : ℕ) (marks : State) (r : Option ℕ) : Type 0 where
   pub goes : walk_from form s t i marks ≡ going_on form s t (get_or t (item_place + i) 0) marks r
-  pub takes : (at : ℕ) → r ≡ At at → Taken (knows_as form s) marks (rest_at (plan_in form s t) i) (rest_at (plan_in form s t) at)
-  pub stays : r ≡ Nowhere → Untaken (knows_as form s) marks (rest_at (plan_in form s t) i)
-  pub later : (at : ℕ) → r ≡ At at → i < at
-  pub at : (at : ℕ) → r ≡ At at → Position (plan_in form s t) at
+  pub takes : (at : ℕ) → r ≡ Some at → Taken (knows_as form s) marks (rest_at (plan_in form s t) i) (rest_at (plan_in form s t) at)
+  pub stays : r ≡ None → Untaken (knows_as form s) marks (rest_at (plan_in form s t) i)
+  pub later : (at : ℕ) → r ≡ Some at → i < at
+  pub at : (at : ℕ) → r ≡ Some at → Position (plan_in form s t) at

@@ -1,21 +1,21 @@
 ghost use Rattle.std.specs.Prelude.{◌≡◌, ◌+◌, ◌<◌};
-ghost use Rattle.meaning.specs.Reading.{placed, placed_twos, placed_as, literals_in};
+ghost use Rattle.meaning.specs.Reading.{placed, placed_twos, literals_in};
 ghost use Rattle.meaning.specs.Walk.{first_missed};
 ghost use Rattle.meaning.specs.ValueStates as Value;
 ghost use Rattle.meaning.specs.declared.Form.TheVariants.{Valued};
 ghost use Rattle.finding.specs.Places.{found};
-ghost use Rattle.reading.specs.Listed.{listed, ListHere, ValuesHere, listed_as, LiteralsHere};
+ghost use Rattle.reading.specs.Listed.{listed, ListHere, ValuesHere, listed_as};
 ghost use Rattle.valuing.specs.Valuing.{ValuedMarks};
-ghost use Rattle.steps.specs.AtHand.{AtHand, MarkedAs};
-ghost use Rattle.steps.specs.Steps.{met_as, bound_as, knows_as, lacks_as, missed_as};
+ghost use Rattle.steps.specs.AtHand.{MarkedAs};
+ghost use Rattle.steps.specs.Steps.{met_as, bound_as, lacks_as, missed_as};
 
+use super::looks::Looks;
+use super::request::Request;
 use finding::branches::sequence_of;
-use finding::places::Found;
-use meaning::Form;
 use parsing::bytes::{two, wide};
 use reading::marks::{Marks, Test, holds};
 use reading::notes;
-use reading::notes::{Notes, get};
+use reading::notes::get;
 use valuing::states::known;
 
 // What is asked at the end: that a literal is known, or that it is known whether a fluent is true.
@@ -36,82 +36,57 @@ fn met(asked: Asked, marks: &Marks, x: usize) -> bool
 }
 
 // The first entry of the list at p that is not met.
-fn first_missed(asked: Asked, marks: &Marks, s: &[u8], p: usize) -> Found
+pub(crate) fn first_missed(asked: Asked, marks: &Marks, s: &[u8], p: usize) -> Option<usize>
     requires { ListHere (bound_as asked) s.now p }
     ensures { result ≡ found (first_missed (met_as asked marks.now) (placed (p + 1) (listed s.now p))) }
 {
-    let end = p + wide(s[p]);
-    let mut i = p;
-    while i < end {
-        i += 1;
-        let x = wide(s[i]);
-        let good = met(asked, marks, x);
-        if good {
-            continue;
+    for i in p + 1..p + 1 + wide(s[p]) {
+        if !met(asked, marks, wide(s[i])) {
+            return Some(i);
         }
-        return Found::At(i);
     }
-    Found::Nowhere
+    None
 }
 
 // The first literal of values of the list at p that is not known true.
-fn first_value_missed(s: &[u8], marks: &Marks, p: usize) -> Found
+pub(crate) fn first_value_missed(s: &[u8], marks: &Marks, p: usize) -> Option<usize>
     requires values_here { ValuesHere s.now p }
     requires valued_marks { ValuedMarks s.now marks.now }
     ensures { result ≡ found (first_missed (Value.known (literals_in s.now) marks.now) (placed_twos (p + 1) (listed_as Valued s.now p))) }
 {
-    let mut left = wide(s[p]);
-    let mut at = p + 1;
-    while 0 < left {
-        let second = at + 1;
-        let l = two(s[at], s[second]);
-        let good = known(s, marks, l);
-        if good {
-            at += 2;
-            left -= 1;
-            continue;
+    for k in 0..wide(s[p]) {
+        let at = p + 1 + 2 * k;
+        if !known(s, marks, two(s[at], s[at + 1])) {
+            return Some(at);
         }
-        return Found::At(at);
     }
-    Found::Nowhere
-}
-
-// The first goal of the list at p that is not known true.
-fn goal_missed(form: Form, s: &[u8], marks: &Marks, p: usize) -> Found
-    requires literals_here { LiteralsHere form s.now p }
-    requires marked_as { MarkedAs form s.now marks.now }
-    ensures { result ≡ found (first_missed (knows_as form s.now marks.now) (placed_as form (p + 1) (listed_as form s.now p))) }
-{
-    match form {
-        Form::Flags => first_missed(Asked::Goal, marks, s, p),
-        Form::Valued => first_value_missed(s, marks, p),
-    }
+    None
 }
 
 // The first guard that a state lacks. Where the notes have no place of guards there are none.
-pub fn lacking(form: Form, s: &[u8], t: &Notes, marks: &Marks) -> Found
-    requires { AtHand form s.now t.now }
-    ensures { result ≡ found (lacks_as form s.now t.now marks.now) }
+pub fn lacking<S: Looks>(r: &Request<S>, marks: &Marks) -> Option<usize>
+    ensures { result ≡ found (lacks_as S.FORM r.now.bytes.now r.now.notes.now marks.now) }
 {
-    let guards = get(t, notes::GUARDS);
+    let guards = get(r.notes, notes::GUARDS);
     if guards == 0 {
-        return Found::Nowhere;
+        return None;
     }
-    first_missed(Asked::Goal, marks, s, guards)
+    first_missed(Asked::Goal, marks, r.bytes, guards)
 }
 
 // The first goal or whether entry that an end state misses.
-pub fn missed(form: Form, s: &[u8], t: &Notes, marks: &Marks) -> Found
-    requires at_hand { AtHand form s.now t.now }
-    requires marked_as { MarkedAs form s.now marks.now }
-    ensures { result ≡ found (missed_as form s.now t.now marks.now) }
+pub fn missed<S: Looks>(r: &Request<S>, marks: &Marks) -> Option<usize>
+    requires marked_as { MarkedAs S.FORM r.now.bytes.now marks.now }
+    ensures { result ≡ found (missed_as S.FORM r.now.bytes.now r.now.notes.now marks.now) }
 {
-    let goals = get(t, notes::GOALS);
-    match goal_missed(form, s, marks, goals) {
-        Found::At(p) => Found::At(p),
-        Found::Nowhere => {
-            let whether = sequence_of(form, s, goals);
-            first_missed(Asked::Whether, marks, s, whether)
-        }
+    let goals = get(r.notes, notes::GOALS);
+    match S::goal_missed(r.bytes, marks, goals) {
+        Some(p) => Some(p),
+        None => first_missed(
+            Asked::Whether,
+            marks,
+            r.bytes,
+            sequence_of(S::FORM, r.bytes, goals),
+        ),
     }
 }

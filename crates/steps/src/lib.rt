@@ -2,6 +2,8 @@
 
 #![tactic(auto)]
 
+pub mod request; // a request that was read, with its notes
+pub mod looks; // what a state says of lists of literals, by the form
 pub mod actions; // whether an action can be run by what is known, and the state after it
 pub mod opening; // the open fluents of an action
 pub mod cases; // whether an action can be run by cases, and the state after it

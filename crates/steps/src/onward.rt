@@ -1,23 +1,20 @@
 ghost use Rattle.std.specs.Prelude.{◌≡◌, ◌+◌, ◌<◌, get_or};
-ghost use Rattle.meaning.specs.Tests.{each_of};
 ghost use Rattle.finding.specs.Branches.{BranchHere};
-ghost use Rattle.reading.specs.Listed.{listed_as, LiteralsHere};
 ghost use Rattle.reading.specs.Planned.{items_of};
 ghost use Rattle.steps.specs.Held.{plan_in};
-ghost use Rattle.steps.specs.AtHand.{AtHand, MarkedAs};
+ghost use Rattle.steps.specs.AtHand.{MarkedAs};
 ghost use Rattle.steps.specs.Rests.{start};
-ghost use Rattle.steps.specs.Steps.{knows_as, Followed, Into, Chosen};
-ghost use Rattle.meaning.specs.declared.Form.TheVariants.{Flags};
+ghost use Rattle.steps.specs.Steps.{Followed, Into, Chosen};
 
+use super::looks::Looks;
+use super::request::Request;
 use finding::branches::{empty, next_item, next_place, sequence_of};
-use finding::places::Found;
-use meaning::Form;
 use parsing::bytes::wide;
 use parsing::limits;
-use reading::marks::{Marks, Test, each_holds};
+use parsing::shapes::Shape;
+use reading::marks::Marks;
 use reading::notes;
-use reading::notes::{Notes, get};
-use valuing::states::each_known;
+use reading::notes::get;
 
 // The first position of a plan with so many items.
 pub fn start_of(items: usize) -> usize
@@ -27,83 +24,48 @@ pub fn start_of(items: usize) -> usize
 }
 
 // The position after item i: the next item of its sequence, or else what follows the branchings that end with it.
-pub fn follow(form: Form, s: &[u8], t: &Notes, i: usize) -> usize
-    requires at_hand { AtHand form s.now t.now }
-    requires i_bound { i < items_of (plan_in form s.now t.now) }
-    ensures { Followed form s.now t.now i result }
+pub fn follow<S: Shape>(r: &Request<S>, i: usize) -> usize
+    requires i_bound { i < items_of (plan_in S.FORM r.now.bytes.now r.now.notes.now) }
+    ensures { Followed S.FORM r.now.bytes.now r.now.notes.now i result }
 {
-    let slot = notes::ITEM_NEXT + i;
-    let mut at = get(t, slot);
+    let mut at = get(r.notes, notes::ITEM_NEXT + i);
     while limits::ITEMS < at {
-        let around = at - notes::AROUND_FROM;
-        let next = notes::ITEM_NEXT + around;
-        at = get(t, next);
+        at = get(r.notes, notes::ITEM_NEXT + (at - notes::AROUND_FROM));
     }
     at
 }
 
 // Where the branch begins that has its condition at p and `item` items before it; with no item of its own, after branching i.
-fn into(form: Form, s: &[u8], t: &Notes, i: usize, p: usize, item: usize) -> usize
-    requires at_hand { AtHand form s.now t.now }
-    requires i_bound { i < items_of (plan_in form s.now t.now) }
-    requires branch_here { BranchHere form s.now p item }
-    ensures { Into form s.now t.now i p item result }
+fn into<S: Shape>(r: &Request<S>, i: usize, p: usize, item: usize) -> usize
+    requires i_bound { i < items_of (plan_in S.FORM r.now.bytes.now r.now.notes.now) }
+    requires branch_here { BranchHere S.FORM r.now.bytes.now p item }
+    ensures { Into S.FORM r.now.bytes.now r.now.notes.now i p item result }
 {
-    let q = sequence_of(form, s, p);
-    let none = empty(s, q);
-    if none {
-        return follow(form, s, t, i);
-    }
-    item
-}
-
-// Each literal of the list at p is known true.
-fn is_known(form: Form, s: &[u8], p: usize, marks: &Marks) -> bool
-    requires literals_here { LiteralsHere form s.now p }
-    requires marked_as { MarkedAs form s.now marks.now }
-    ensures { result ≡ each_of (knows_as form s.now marks.now) (listed_as form s.now p) }
-{
-    match form {
-        Form::Flags => each_holds(Test::Known, marks, s, p),
-        Form::Valued => each_known(s, marks, p),
+    if empty(r.bytes, sequence_of(S::FORM, r.bytes, p)) {
+        follow(r, i)
+    } else {
+        item
     }
 }
 
 // Where the walk goes on from the branching that is item i: in the branch whose condition is known true.
-pub fn chosen(form: Form, s: &[u8], t: &Notes, i: usize, marks: &Marks) -> Found
-    requires at_hand { AtHand form s.now t.now }
-    requires i_bound { i < items_of (plan_in form s.now t.now) }
-    requires i_value { get_or s.now (get_or t.now (0 + i) 0) 0 ≡ 255 }
-    requires marked_as { MarkedAs form s.now marks.now }
-    ensures { Chosen form s.now t.now i marks.now result }
+pub fn chosen<S: Looks>(r: &Request<S>, i: usize, marks: &Marks) -> Option<usize>
+    requires i_bound { i < items_of (plan_in S.FORM r.now.bytes.now r.now.notes.now) }
+    requires i_value { get_or r.now.bytes.now (get_or r.now.notes.now (0 + i) 0) 0 ≡ 255 }
+    requires marked_as { MarkedAs S.FORM r.now.bytes.now marks.now }
+    ensures { Chosen S.FORM r.now.bytes.now r.now.notes.now i marks.now result }
 {
-    let slot = notes::ITEM_PLACE + i;
-    let start = get(t, slot);
-    let second = start + 1;
-    let mut left = wide(s[second]);
+    let start = get(r.notes, notes::ITEM_PLACE + i);
     let mut p = start + 2;
     let mut item = i + 1;
-    while 0 < left {
-        let known = is_known(form, s, p, marks);
-        if known {
-            return Found::At(into(form, s, t, i, p, item));
+    for _ in 0..wide(r.bytes[start + 1]) {
+        if S::is_known(r.bytes, p, marks) {
+            return Some(into(r, i, p, item));
         }
-        let q = next_place(form, s, t, p, item);
-        let j = next_item(form, s, t, p, item);
-        p = q;
-        item = j;
-        left -= 1;
+        (p, item) = (
+            next_place(S::FORM, r.bytes, r.notes, p, item),
+            next_item(S::FORM, r.bytes, r.notes, p, item),
+        );
     }
-    Found::Nowhere
-}
-
-// The same of a request of flags. The compiler makes this one a part of its caller.
-pub fn chosen_flags(s: &[u8], t: &Notes, i: usize, marks: &Marks) -> Found
-    requires at_hand { AtHand Flags s.now t.now }
-    requires i_bound { i < items_of (plan_in Flags s.now t.now) }
-    requires i_value { get_or s.now (get_or t.now (0 + i) 0) 0 ≡ 255 }
-    requires marked_as { MarkedAs Flags s.now marks.now }
-    ensures { Chosen Flags s.now t.now i marks.now result }
-{
-    chosen(Form::Flags, s, t, i, marks)
+    None
 }

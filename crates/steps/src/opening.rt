@@ -4,17 +4,18 @@ ghost use Rattle.meaning.specs.Limits.{format, all_literals};
 ghost use Rattle.meaning.specs.ByCases.{open_fluents};
 ghost use Rattle.reading.specs.Listed.{listed, ListHere};
 ghost use Rattle.steps.specs.Held.{table_in};
-ghost use Rattle.steps.specs.LinesFound.{effect_places, run_places};
-ghost use Rattle.steps.specs.AtHand.{AtHand, Marked};
-ghost use Rattle.steps.specs.Flags.{flagged, flagged_at, OpenFlags, with_flag};
+ghost use Rattle.steps.specs.AtHand.{Marked};
+ghost use Rattle.steps.specs.Flags.{flagged, flagged_at, HasBodies, places_of, OpenFlags, with_flag};
 ghost use Rattle.steps.specs.Opened.{Opened};
 ghost use Rattle.meaning.specs.declared.Form.TheVariants.{Flags};
 
+use super::request::Request;
 use parsing::bytes::wide;
 use parsing::limits;
+use parsing::shapes::OfFlags;
 use reading::marks::Marks;
 use reading::notes;
-use reading::notes::{Notes, first_line, line_place, next_line};
+use reading::notes::{first_line, line_place, next_line};
 
 // The open fluents of an action, ascending, behind their number, which is one more than the limit where there are more.
 pub const OPEN_SLOTS: usize = 1 + limits::OPEN;
@@ -26,59 +27,49 @@ fn flag_body(s: &[u8], p: usize, marks: &Marks, flags: &mut Marks)
     requires { ListHere all_literals s.now p }
     ensures { flags.new ≡ flagged marks.now (listed s.now p) flags.old }
 {
-    let first = p + 1;
-    let end = first + wide(s[p]);
-    let mut i = first;
-    while i < end {
-        let l = wide(s[i]);
-        i += 1;
-        let f = l / 2;
+    for l in &s[p + 1..p + 1 + wide(s[p])] {
+        let f = wide(*l) / 2;
         if marks[f] == 0 {
             flags[f] = 1;
         }
     }
 }
 
-// Those of the bodies of the action's effects.
-fn flag_effects(s: &[u8], t: &Notes, a: usize, marks: &Marks, flags: &mut Marks)
-    requires at_hand { AtHand Flags s.now t.now }
+// Those of the bodies of the action's lines in one section, each so many bytes behind its line's place.
+fn flag_lines(
+    r: &Request<OfFlags>,
+    lines: usize,
+    behind: usize,
+    a: usize,
+    marks: &Marks,
+    flags: &mut Marks,
+)
+    requires has_bodies { HasBodies lines behind }
     requires a_lt_actions { a < format.actions }
-    ensures { flags.new ≡ flagged_at s.now marks.now 2 (effect_places Flags s.now a) flags.old }
+    ensures { flags.new ≡ flagged_at r.now.bytes.now marks.now behind (places_of lines r.now.bytes.now a) flags.old }
 {
-    let mut k = first_line(t, notes::EFFECTS, a);
+    let mut k = first_line(r.notes, lines, a);
     while 0 < k {
-        let p = line_place(t, notes::EFFECTS, k);
-        k = next_line(t, notes::EFFECTS, k);
-        let body = p + 2;
-        flag_body(s, body, marks, flags);
-    }
-}
-
-// Those of the bodies of its executability lines.
-fn flag_lines(s: &[u8], t: &Notes, a: usize, marks: &Marks, flags: &mut Marks)
-    requires at_hand { AtHand Flags s.now t.now }
-    requires a_lt_actions { a < format.actions }
-    ensures { flags.new ≡ flagged_at s.now marks.now 1 (run_places Flags s.now a) flags.old }
-{
-    let mut k = first_line(t, notes::EXECUTABILITY, a);
-    while 0 < k {
-        let p = line_place(t, notes::EXECUTABILITY, k);
-        k = next_line(t, notes::EXECUTABILITY, k);
-        let body = p + 1;
-        flag_body(s, body, marks, flags);
+        flag_body(
+            r.bytes,
+            line_place(r.notes, lines, k) + behind,
+            marks,
+            flags,
+        );
+        k = next_line(r.notes, lines, k);
     }
 }
 
 // Those of all bodies of the action, and no others.
-fn open_flags(s: &[u8], t: &Notes, a: usize, marks: &Marks) -> Marks
-    requires at_hand { AtHand Flags s.now t.now }
+fn open_flags(r: &Request<OfFlags>, a: usize, marks: &Marks) -> Marks
     requires a_lt_actions { a < format.actions }
     requires marked { Marked marks.now }
-    ensures { OpenFlags (table_in Flags s.now) a marks.now result }
+    ensures { OpenFlags (table_in Flags r.now.bytes.now) a marks.now result }
 {
     let mut flags = [0u8; limits::FLUENTS];
-    flag_effects(s, t, a, marks, &mut flags);
-    flag_lines(s, t, a, marks, &mut flags);
+    // An effect has its literal between its action and its body.
+    flag_lines(r, notes::EFFECTS, 2, a, marks, &mut flags);
+    flag_lines(r, notes::EXECUTABILITY, 1, a, marks, &mut flags);
     flags
 }
 
@@ -88,17 +79,13 @@ fn gathered(flags: &Marks) -> Open
 {
     let mut held = [0u8; OPEN_SLOTS];
     let mut k = 0;
-    let mut f = 0;
-    while f < limits::FLUENTS {
-        let next = f;
-        f += 1;
-        if flags[next] == 1 {
+    for f in 0..limits::FLUENTS {
+        if flags[f] == 1 {
             k += 1;
             if limits::OPEN < k {
-                held[0] = k as u8;
-                return held;
+                break;
             }
-            held[k] = next as u8;
+            held[k] = f as u8;
         }
     }
     held[0] = k as u8;
@@ -106,12 +93,11 @@ fn gathered(flags: &Marks) -> Open
 }
 
 // The open fluents of the action.
-pub fn opened(s: &[u8], t: &Notes, a: usize, marks: &Marks) -> Open
-    requires at_hand { AtHand Flags s.now t.now }
+pub fn opened(r: &Request<OfFlags>, a: usize, marks: &Marks) -> Open
     requires a_lt_actions { a < format.actions }
     requires marked { Marked marks.now }
-    ensures { Opened (open_fluents (table_in Flags s.now) a marks.now) result }
+    ensures { Opened (open_fluents (table_in Flags r.now.bytes.now) a marks.now) result }
 {
-    let flags = open_flags(s, t, a, marks);
+    let flags = open_flags(r, a, marks);
     gathered(&flags)
 }

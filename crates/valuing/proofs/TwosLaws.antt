@@ -93,5 +93,8 @@ module _ (s : List ℕ) (p : ℕ) (here : ValuesHere s p) (l : ℕ) (has : Has (
   pub listed_near : l < 32768
   listed_near = (twos_ranged s p here (get_or s p 0) (p + 1) (twos_start s p (get_or s p 0) refl) l has).0
 
+  pub listed_second : l % 256 < 32
+  listed_second = (twos_ranged s p here (get_or s p 0) (p + 1) (twos_start s p (get_or s p 0) refl) l has).1
+
   pub listed_fluent : l / 256 < format.fluents
   listed_fluent = let near = listed_near in omega arith

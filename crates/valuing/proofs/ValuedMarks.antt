@@ -1,9 +1,9 @@
 -- Literals of values in a partial state: what a mark knows and leaves possible, and the loops over a list's literals. Assumes nothing.
-use Prim.Native.Nat.{ℕ, ◌+◌, ◌-◌, ◌*◌, ◌/◌, ◌%◌, ◌≤◌, ◌<◌}
+use Prim.Native.Nat.{ℕ, ◌+◌, ◌-◌, ◌/◌, ◌%◌}
 use native.Mathlib.Omega.{arith}
 use mathlib.Core.Path.{◌≡◌, refl, sym, ◌∙◌, ap}
-use mathlib.Core.Bool.{Bool, true, false}
-use mathlib.Core.List.{List}
+use mathlib.Core.Bool.{Bool, true, false, not}
+use mathlib.Core.List.{List, [], ◌∷◌}
 use lib.ListN.{get_or}
 use lib.Dec.{eqb}
 use borrow.Author.Tests.{eqb-true, eqb-false, eq-eqb, ne_eqb}
@@ -16,9 +16,7 @@ use Rattle.meaning.proofs.TestLaws.{by-test, same_test, both_true, both_left, bo
 use Rattle.meaning.proofs.ValueLaws.{has_numbers}
 use Rattle.reading.specs.declared.marks.Look.{Look}
 use Rattle.reading.specs.declared.marks.Look.TheVariants as look
-use Rattle.reading.specs.Listed.{twos_from}
 use Rattle.valuing.specs.Valuing.{ValuedMarks, look_values}
-use Rattle.valuing.proofs.TwosLaws.{TwosLeft, twos_start, twos_on, twos_next, twos_over, twos_whole}
 
 -- WHAT A MARK KNOWS.
 module _ (s marks : List ℕ) (so : ValuedMarks s marks) (f : ℕ) (test : ℕ → Bool) where
@@ -43,6 +41,11 @@ module _ (s marks : List ℕ) (so : ValuedMarks s marks) (f : ℕ) (test : ℕ �
       let said = eqb-true (get_or marks f 0) (t.0 + 1) (both_left _ _ t.2) in
       absurd (omega (arith, said, is)))
       (λ e. e)
+
+not_fails : (a : Bool) → not a ≡ fails a
+unfolding fails
+not_fails true = refl
+not_fails false = refl
 
 fails_twice : (a : Bool) → fails (fails a) ≡ a
 unfolding fails
@@ -82,13 +85,8 @@ module _ (s marks : List ℕ) (so : ValuedMarks s marks) (l mark : ℕ) (is : ma
       unfolding positive
       known_other = known_satisfied ∙ pick_false _ _ _ (ne_eqb (l % 2) 0 odd) ∙ ap fails (one_less (l % 256 / 2))
 
-      pub known_is_it : mark ≡ l % 256 / 2 + 1 → false ≡ known (literals_in s) marks l
-      unfolding fails
-      known_is_it same = sym (known_other ∙ ap fails (eq-eqb _ _ same))
-
-      pub known_is_not : (mark ≡ l % 256 / 2 + 1 → ⊥) → true ≡ known (literals_in s) marks l
-      unfolding fails
-      known_is_not other = sym (known_other ∙ ap fails (ne_eqb _ _ other))
+      pub known_is_not : not (eqb mark (l % 256 / 2 + 1)) ≡ known (literals_in s) marks l
+      known_is_not = not_fails _ ∙ sym known_other
 
   pub known_is : l % 2 ≡ 0 → eqb mark (l % 256 / 2 + 1) ≡ known (literals_in s) marks l
   unfolding positive
@@ -101,8 +99,8 @@ module _ (s marks : List ℕ) (so : ValuedMarks s marks) (l mark : ℕ) (is : ma
       let some = eqb-false mark 0 f in
       sym (known_satisfied some ∙ pick_true _ _ _ (eq-eqb (l % 2) 0 even) ∙ one_less some (l % 256 / 2)))
 
-  pub known_unknown : mark ≡ 0 → false ≡ known (literals_in s) marks l
-  known_unknown none = sym (unknown_not none)
+  pub known_unknown : mark ≡ 0 → not (eqb mark 0) ≡ known (literals_in s) marks l
+  known_unknown none = ap not (eq-eqb _ _ none) ∙ sym (unknown_not none)
 
 -- What is known is possible.
 known_possible : (s marks : List ℕ) → ValuedMarks s marks → (l : ℕ) → known (literals_in s) marks l ≡ true → possible (literals_in s) marks l ≡ true
@@ -112,31 +110,23 @@ known_possible s marks so l e =
     (λ f. possible_known s marks so l _ refl (eqb-false _ _ f) ∙ e)
 
 -- THE LOOP over a list's literals: what those that are left say is what all of them say.
-pub record EachAhead (test : ℕ → Bool) (s : List ℕ) (p at left : ℕ) : Type 0 where
-  pub place : TwosLeft s p at left
-  pub is : each_of test (twos_from s (p + 1) (get_or s p 0)) ≡ each_of test (twos_from s at left)
+module _ (test : ℕ → Bool) (all left : List ℕ) (is : each_of test all ≡ each_of test left) where
+  pub each_over : left ≡ [] → true ≡ each_of test all
+  unfolding each_of
+  each_over none = sym (is ∙ rw none)
 
-module _ (test : ℕ → Bool) (s : List ℕ) (p : ℕ) where
-  pub each_starts : (count : ℕ) → count ≡ get_or s p 0 → EachAhead test s p (p + 1) count
-  each_starts count e = record { place = twos_start s p count e; is = ap (each_of test) (sym (twos_whole s p count e)) }
-
-  module _ (at left : ℕ) (so : EachAhead test s p at left) where
-    pub each_over : left ≤ 0 → true ≡ each_of test (twos_from s (p + 1) (get_or s p 0))
+  module _ (l : ℕ) (others : List ℕ) (turn : left ≡ l ∷ others) (good : Bool) (told : good ≡ test l) where
+    each_first : each_of test all ≡ both good (each_of test others)
     unfolding each_of
-    each_over h = sym (so.is ∙ rw (twos_over s at left h))
+    each_first = is ∙ rw (turn, told)
 
-    module _ (more : 0 < left) (l : ℕ) (is : l ≡ get_or s at 0 * 256 + get_or s (at + 1) 0) (good : Bool) (told : good ≡ test l) where
-      each_first : each_of test (twos_from s (p + 1) (get_or s p 0)) ≡ both good (each_of test (twos_from s (at + 2) (left - 1)))
-      unfolding each_of
-      each_first = so.is ∙ rw (twos_next s at left l more is, told)
+    pub each_on : good ≡ true → each_of test all ≡ each_of test others
+    unfolding both
+    each_on t = each_first ∙ rw t
 
-      pub each_on : good ≡ true → EachAhead test s p (at + 2) (left - 1)
-      unfolding both
-      each_on t = record { place = twos_on s p at left so.place more; is = each_first ∙ rw t }
-
-      pub each_fails : good ≡ false → false ≡ each_of test (twos_from s (p + 1) (get_or s p 0))
-      unfolding both
-      each_fails f = sym (each_first ∙ rw f)
+    pub each_fails : good ≡ false → false ≡ each_of test all
+    unfolding both
+    each_fails f = sym (each_first ∙ rw f)
 
 -- ONE LOOK: what the literals that are left tell, where those before were all known or some was not.
 unfoldable pub look_on : (sure : Bool) (s marks : List ℕ) → List ℕ → Look
@@ -145,49 +135,36 @@ look_on sure s marks ls =
     pick (each_of (possible (literals_in s) marks) ls) (λ _. look.Possible) λ _.
     look.Never
 
-pub record LookAhead (s marks : List ℕ) (p : ℕ) (sure : Bool) (at left : ℕ) : Type 0 where
-  pub place : TwosLeft s p at left
-  pub is : look_values s marks (twos_from s (p + 1) (get_or s p 0)) ≡ look_on sure s marks (twos_from s at left)
+pub look_starts : (s marks all left : List ℕ) → left ≡ all → look_values s marks all ≡ look_on true s marks left
+unfolding look_values look_on both
+look_starts s marks all left whole = rw whole
 
-module _ (s marks : List ℕ) (p : ℕ) where
-  pub look_starts : (count : ℕ) → count ≡ get_or s p 0 → LookAhead s marks p true (p + 1) count
-  unfolding look_values look_on both
-  look_starts count e = record { place = twos_start s p count e; is = ap (look_on true s marks) (sym (twos_whole s p count e)) }
+module _ (s marks all : List ℕ) (sure : Bool) (left : List ℕ) (is : look_values s marks all ≡ look_on sure s marks left) where
+  pub look_sure : left ≡ [] → sure ≡ true → look.Known ≡ look_values s marks all
+  unfolding look_on each_of both pick
+  look_sure none e = sym (is ∙ rw (none, e))
 
-  module _ (sure : Bool) (at left : ℕ) (so : LookAhead s marks p sure at left) where
-    pub look_sure : left ≤ 0 → sure ≡ true → look.Known ≡ look_values s marks (twos_from s (p + 1) (get_or s p 0))
-    unfolding look_on each_of both pick
-    look_sure h e = sym (so.is ∙ rw (twos_over s at left h, e))
+  pub look_unsure : left ≡ [] → sure ≡ false → look.Possible ≡ look_values s marks all
+  unfolding look_on each_of both pick
+  look_unsure none e = sym (is ∙ rw (none, e))
 
-    pub look_unsure : left ≤ 0 → sure ≡ false → look.Possible ≡ look_values s marks (twos_from s (p + 1) (get_or s p 0))
-    unfolding look_on each_of both pick
-    look_unsure h e = sym (so.is ∙ rw (twos_over s at left h, e))
+  module _ (valued : ValuedMarks s marks) (l : ℕ) (others : List ℕ) (turn : left ≡ l ∷ others) (good : Bool) (told : good ≡ known (literals_in s) marks l) where
+    look_first : (b c : Bool) → known (literals_in s) marks l ≡ b → possible (literals_in s) marks l ≡ c
+        → look_values s marks all
+        ≡ pick (both sure (both b (each_of (known (literals_in s) marks) others))) (λ _. look.Known) (λ _. pick (both c (each_of (possible (literals_in s) marks) others)) (λ _. look.Possible) (λ _. look.Never))
+    unfolding look_on each_of
+    look_first b c k m = is ∙ rw (turn, k, m)
 
-    module _ (valued : ValuedMarks s marks) (more : 0 < left) (l : ℕ) (is : l ≡ get_or s at 0 * 256 + get_or s (at + 1) 0)
-        (good : Bool) (told : good ≡ known (literals_in s) marks l) where
-      abbrev others : List ℕ
-      others = twos_from s (at + 2) (left - 1)
+    pub look_known : good ≡ true → look_values s marks all ≡ look_on sure s marks others
+    unfolding look_on both
+    look_known t = look_first true true (sym told ∙ t) (known_possible s marks valued l (sym told ∙ t))
 
-      look_first : (b c : Bool) → known (literals_in s) marks l ≡ b → possible (literals_in s) marks l ≡ c
-          → look_values s marks (twos_from s (p + 1) (get_or s p 0))
-          ≡ pick (both sure (both b (each_of (known (literals_in s) marks) others))) (λ _. look.Known) (λ _. pick (both c (each_of (possible (literals_in s) marks) others)) (λ _. look.Possible) (λ _. look.Never))
-      unfolding look_on each_of
-      look_first b c k m = so.is ∙ rw (twos_next s at left l more is, k, m)
+    module _ (not : good ≡ false) where
+      pub look_open : get_or marks (l / 256) 0 ≡ 0 → look_values s marks all ≡ look_on false s marks others
+      unfolding look_on both pick
+      look_open none = look_first false true (sym told ∙ not) (unknown_possible s marks valued l _ refl none) ∙ pick_false _ _ _ (both_none sure)
 
-      pub look_known : good ≡ true → LookAhead s marks p sure (at + 2) (left - 1)
-      unfolding look_on both
-      look_known t = record { place = twos_on s p at left so.place more; is = look_first true true (sym told ∙ t) (known_possible s marks valued l (sym told ∙ t)) }
-
-      module _ (not : good ≡ false) where
-        pub look_open : get_or marks (l / 256) 0 ≡ 0 → LookAhead s marks p false (at + 2) (left - 1)
-        unfolding look_on both pick
-        look_open none =
-            record {
-              place = twos_on s p at left so.place more;
-              is = look_first false true (sym told ∙ not) (unknown_possible s marks valued l _ refl none) ∙ pick_false _ _ _ (both_none sure);
-            }
-
-        pub look_never : (get_or marks (l / 256) 0 ≡ 0 → ⊥) → look.Never ≡ look_values s marks (twos_from s (p + 1) (get_or s p 0))
-        unfolding both pick
-        look_never some =
-            sym (look_first false false (sym told ∙ not) (possible_known s marks valued l _ refl some ∙ sym told ∙ not) ∙ pick_false _ _ _ (both_none sure))
+      pub look_never : (get_or marks (l / 256) 0 ≡ 0 → ⊥) → look.Never ≡ look_values s marks all
+      unfolding both pick
+      look_never some =
+          sym (look_first false false (sym told ∙ not) (possible_known s marks valued l _ refl some ∙ sym told ∙ not) ∙ pick_false _ _ _ (both_none sure))

@@ -1,1 +1,2 @@
 pub mod Valuing
+pub mod Meets

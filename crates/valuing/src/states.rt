@@ -16,6 +16,7 @@ use parsing::bits::has_bit;
 use parsing::bytes::{two, wide};
 use parsing::limits;
 use parsing::values::values_in;
+use reading::listed::listed_in_twos;
 use reading::marks::{Look, Marks};
 
 // The literal is known true. A mark is one more than the value that it says, and 0 says none.
@@ -25,19 +26,13 @@ pub fn known(s: &[u8], marks: &Marks, l: usize) -> bool
     requires valued_marks { ValuedMarks s.now marks.now }
     ensures { result ≡ known (literals_in s.now) marks.now l }
 {
-    let f = l / 256;
-    let mark = wide(marks[f]);
+    let mark = wide(marks[l / 256]);
     let said = l % 256 / 2 + 1;
     if l % 2 == 0 {
-        return mark == said;
+        mark == said
+    } else {
+        mark != 0 && mark != said
     }
-    if mark == 0 {
-        return false;
-    }
-    if mark == said {
-        return false;
-    }
-    true
 }
 
 // Each literal of the list at p.
@@ -46,18 +41,10 @@ pub fn each_known(s: &[u8], marks: &Marks, p: usize) -> bool
     requires valued_marks { ValuedMarks s.now marks.now }
     ensures { result ≡ each_of (known (literals_in s.now) marks.now) (listed_as Valued s.now p) }
 {
-    let mut left = wide(s[p]);
-    let mut at = p + 1;
-    while 0 < left {
-        let second = at + 1;
-        let l = two(s[at], s[second]);
-        at += 2;
-        left -= 1;
-        let good = known(s, marks, l);
-        if good {
-            continue;
+    for pair in listed_in_twos(s, p).chunks_exact(2) {
+        if !known(s, marks, two(pair[0], pair[1])) {
+            return false;
         }
-        return false;
     }
     true
 }
@@ -69,28 +56,17 @@ pub fn look_at(s: &[u8], marks: &Marks, p: usize) -> Look
     ensures { result ≡ look_values s.now marks.now (listed_as Valued s.now p) }
 {
     let mut sure = true;
-    let mut left = wide(s[p]);
-    let mut at = p + 1;
-    while 0 < left {
-        let second = at + 1;
-        let l = two(s[at], s[second]);
-        at += 2;
-        left -= 1;
-        let good = known(s, marks, l);
-        if good {
+    for pair in listed_in_twos(s, p).chunks_exact(2) {
+        let l = two(pair[0], pair[1]);
+        if known(s, marks, l) {
             continue;
         }
-        let f = l / 256;
-        if marks[f] == limits::UNKNOWN_MARK {
-            sure = false;
-            continue;
+        if marks[l / 256] != limits::UNKNOWN_MARK {
+            return Look::Never;
         }
-        return Look::Never;
+        sure = false;
     }
-    if sure {
-        return Look::Known;
-    }
-    Look::Possible
+    if sure { Look::Known } else { Look::Possible }
 }
 
 // The mark of a fluent that is left those of so many values that are in the set.
@@ -99,16 +75,12 @@ fn mark_left(m: u16, values: usize) -> u8
     ensures { result ≡ mark_left (those_of (bit_of m) (numbers 0 values)) }
 {
     let mut mark = limits::UNKNOWN_MARK;
-    let mut v = 0;
-    while v < values {
-        let there = has_bit(m, v);
-        v += 1;
-        if there {
-            if mark == limits::UNKNOWN_MARK {
-                mark = v as u8;
-                continue;
+    for v in 0..values {
+        if has_bit(m, v) {
+            if mark != limits::UNKNOWN_MARK {
+                return limits::UNKNOWN_MARK;
             }
-            return limits::UNKNOWN_MARK;
+            mark = v as u8 + 1;
         }
     }
     mark
@@ -122,11 +94,8 @@ pub fn first_state(s: &[u8], p: usize) -> Marks
 {
     let allowed = allowed_by(s, p);
     let mut marks = [limits::UNKNOWN_MARK; limits::FLUENTS];
-    let mut f = 0;
-    while f < limits::FLUENTS {
-        let values = values_in(s, f);
-        marks[f] = mark_left(allowed[f], values);
-        f += 1;
+    for (f, mark) in marks.iter_mut().enumerate() {
+        *mark = mark_left(allowed[f], values_in(s, f));
     }
     marks
 }

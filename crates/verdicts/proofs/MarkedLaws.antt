@@ -1,43 +1,27 @@
--- A walk from a state of marks 0, 1 and 2 ends in such a state, wherever it misses or stops, and one from marks within the numbers of values in marks that are within them: what sets
--- a mark sets one of these, and a walk keeps what its steps keep. So its marks are bytes, and so are its numbers. Assumes nothing.
-use Prim.Native.Nat.{ℕ, ◌<◌}
-use native.Mathlib.Omega.{arith}
-use mathlib.Core.Path.{refl}
-use mathlib.Core.List.{List, [], ◌∷◌}
-use mathlib.Core.Logic.{inl, inr}
-use lib.ListN.{length}
-use Rattle.meaning.specs.Tests.{both, fails, Has}
+-- The first state, in either form, and the walk of flags: from a state of marks 0, 1 and 2 it ends in such a state, wherever it misses or stops. What sets a mark sets one of these, and a walk keeps what
+-- its steps keep. Assumes nothing.
+use Prim.Native.Nat.{ℕ}
+use mathlib.Core.List.{List}
 use Rattle.meaning.specs.Limits.{format}
 use Rattle.meaning.specs.declared.Form.{Form}
 use Rattle.meaning.specs.declared.Form.TheVariants.{Flags, Valued}
 use Rattle.meaning.specs.Literals.{says_true, says_false}
-use Rattle.meaning.specs.Lines.{knowledge_of, senses}
-use Rattle.meaning.specs.Reading.{values_in, literals_in}
 use Rattle.meaning.specs.Requests.{Table}
-use Rattle.meaning.specs.States.{State, Outcome, first_state, state_after, outcome_to}
-use Rattle.meaning.specs.Values.{numbers, values_of}
+use Rattle.meaning.specs.States.{State, first_state, state_after}
 use Rattle.meaning.specs.ValueStates as Value
 use Rattle.meaning.specs.ValueStates.{each_value}
-use Rattle.meaning.specs.Walk.{End, walk, table_does}
+use Rattle.meaning.specs.Walk.{End, table_does}
 use Rattle.meaning.specs.ByCases.{after_cases, cases_does}
 use Rattle.meaning.specs.Schemes.{narrow_does}
-use Rattle.meaning.proofs.TestLaws.{those_has}
 use Rattle.meaning.proofs.PickLaws.{pick_has}
-use Rattle.meaning.proofs.ValueLaws.{numbers_has}
-use Rattle.meaning.proofs.KeptEnds.{on_places, OutcomeHas, any_outcome, EndSo, StepSo, meet_so, walk_so, end_of_so}
-use Rattle.valuing.specs.Valuing.{ValuedMarks}
 use Rattle.valuing.proofs.FirstMarks.{first_valued}
-use Rattle.acting.proofs.ActingMarks.{told_valued, after_valued}
-use Rattle.steps.specs.Held.{table_in, plan_in}
-use Rattle.steps.specs.AtHand.{AtHand, Marked, MarkedAs}
-use Rattle.steps.specs.Steps.{does_in, step_in, judged_in, missed_as, first_in, walk_held}
+use Rattle.steps.specs.Held.{table_in}
+use Rattle.steps.specs.AtHand.{Marked, MarkedAs}
+use Rattle.steps.specs.Steps.{does_in, step_in, first_in, walk_held}
 use Rattle.steps.proofs.LookLaws.{marked_after}
 use Rattle.steps.proofs.ModeLaws.{marked_after_cases}
-use Rattle.steps.proofs.HeldEnds.{held_so}
 use Rattle.steps.proofs.ToldMarks.{told_marked, state_marked}
-use Rattle.steps.proofs.FormSteps.{hand_values}
-use Rattle.verdicts.specs.Telling.{ByteMarks}
-use Rattle.verdicts.proofs.KeepingLaws.{EndHas, KeptBy, DoesKeep, table_keeps, narrow_keeps, cases_keep, held_kept, end_weaker}
+use Rattle.verdicts.proofs.KeepingLaws.{EndHas, KeptBy, DoesKeep, table_keeps, narrow_keeps, cases_keep, held_kept}
 
 -- THE FIRST STATE.
 pub first_marked : (t : Table) → Marked (first_state format t)
@@ -73,64 +57,3 @@ held_marked s t =
     (λ a u marked. pick_has (DoesKeep Marked) _ _ _ (λ _. known_marked (table_in Flags s) a u marked)
     (λ _. pick_has (DoesKeep Marked) _ _ _ (λ _. narrow_marked (table_in Flags s) a u marked) (λ _. cases_marked (table_in Flags s) a u marked)))
     (first_marked (table_in Flags s))
-
--- THE WALK of values. Each reading of a fluent is one of its values.
-module _ (P : State → Type 0) where
-  values_kept : (vs : List ℕ) (k : ℕ → Outcome State) (u : State) → P u → ((v : ℕ) → Has vs v → OutcomeHas P (k v)) → OutcomeHas P (each_value vs k u)
-  unfolding each_value
-  values_kept [] k u has each = has
-  values_kept (v ∷ []) k u has each = each v (inl refl)
-  values_kept (v ∷ w ∷ vs) k u has each = (each v (inl refl), values_kept (w ∷ vs) k u has (λ x h. each x (inr h)))
-
-module _ (s : List ℕ) where
-  readings_valued : (fs : List ℕ) → ((f : ℕ) → Has fs f → f < format.fluents) → (u : State) → ValuedMarks s u → OutcomeHas (ValuedMarks s) (Value.readings (literals_in s) fs u)
-  unfolding Value.readings Value.told values_of
-  readings_valued [] near u so = so
-  readings_valued (f ∷ fs) near u so =
-      values_kept (ValuedMarks s) (values_of (literals_in s) f) (λ v. Value.readings (literals_in s) fs (Value.told f v u)) u so
-      (λ v h. let low = numbers_has 0 (values_in s f) v h in readings_valued fs (λ g i. near g (inr i)) (Value.told f v u) (told_valued s u so f v (near f (inl refl)) (omega arith)))
-
-  sensed_near : (a : ℕ) (u : State) → ValuedMarks s u → (f : ℕ) → Has (Value.unknown_sensed (literals_in s) (table_in Valued s) a u) f → f < format.fluents
-  unfolding Value.unknown_sensed
-  sensed_near a u so f h =
-      let low = numbers_has 0 (length u) f (those_has (λ (g : ℕ). both (senses (knowledge_of (table_in Valued s) a) g) (fails (Value.known_whether (literals_in s) u g))) (numbers 0 (length u)) f h).0 in
-      omega (arith, low, so.sized)
-
-  does_valued : (a : ℕ) (u : State) → ValuedMarks s u → DoesKeep (ValuedMarks s) (Value.table_does (literals_in s) (table_in Valued s) a u)
-  unfolding Value.table_does Value.outcome
-  does_valued a u so =
-      pick_has (DoesKeep (ValuedMarks s)) _ _ _
-      (λ _. pick_has (OutcomeHas (ValuedMarks s)) _ _ _
-      (λ _. readings_valued (Value.unknown_sensed (literals_in s) (table_in Valued s) a u) (sensed_near a u so) u so)
-      (λ _. after_valued s u so a))
-      (λ _ p _. so)
-
-  pub held_valued : (t : List ℕ) → EndHas (ValuedMarks s) (walk_held Valued s t).end
-  unfolding step_in
-  held_valued t = held_kept (ValuedMarks s) Valued s t does_valued (first_as Valued s)
-
--- ITS MARKS ARE BYTES in either form: a fluent has 16 values at most.
-pub held_bytes : (form : Form) (s t : List ℕ) → AtHand form s t → EndHas ByteMarks (walk_held form s t).end
-held_bytes Flags s t here = end_weaker Marked ByteMarks (λ u marked. record { small = λ f. let low = marked.small f in omega arith }) (walk_held Flags s t).end (held_marked s t)
-held_bytes Valued s t here =
-    end_weaker (ValuedMarks s) ByteMarks (λ u so. record { small = λ f. let low = so.small f in let few = (hand_values s t here).each f in omega arith }) (walk_held Valued s t).end (held_valued s t)
-
--- Its numbers are bytes.
-abbrev pub EndSmall : End State → Type 0
-EndSmall = EndSo (λ _ _. Unit {0}) (λ n _ _. n < 256)
-
-pub held_small : (form : Form) (s t : List ℕ) → EndSmall (walk_held form s t).end
-unfolding walk_held step_in judged_in Value.table_does
-held_small Flags s t =
-    held_so (λ _ _. Unit {0}) (λ n _ _. n < 256) (λ _. Unit {0}) (λ _. Unit {0})
-    (record { misses = λ _ _ _. tt; stuck = λ _ _ _ _. omega arith; wide = λ _ _. omega arith; many = λ _ _. omega arith; breaks = λ _ _ _. omega arith }) s t
-    (λ a u _. any_outcome (outcome_to (table_in Flags s) a u (state_after (table_in Flags s) a u))) (λ a u _. any_outcome (outcome_to (table_in Flags s) a u (after_cases (table_in Flags s) a u)))
-    (on_places (λ _. Unit {0}) (λ _. tt) (plan_in Flags s t)) tt
-held_small Valued s t =
-    let step = step_in Valued s t in
-    let does : (a : ℕ) (u : State) → Unit {0} → StepSo {S = State} (λ _ _. Unit {0}) (λ n _ _. n < 256) (λ _. Unit {0}) (λ _. Unit {0}) (step.does a u) =
-    λ a u _. pick_has (StepSo {S = State} (λ _ _. Unit {0}) (λ n _ _. n < 256) (λ _. Unit {0}) (λ _. Unit {0})) _ _ _ (λ _. any_outcome (Value.outcome (literals_in s) (table_in Valued s) a u)) (λ _ _ _. omega arith) in
-    meet_so (λ _ _. Unit {0}) (λ n _ _. n < 256) (λ _. Unit {0}) (λ _. Unit {0}) step does (λ _ _ _ _. omega arith) (λ _ _ _ _. omega arith) (walk step (plan_in Valued s t) (judged_in Valued s t))
-    (walk_so (λ _ _. Unit {0}) (λ n _ _. n < 256) (λ _. Unit {0}) (λ _. Unit {0}) step does (λ _ _ _ _. omega arith) (λ _ _ _ _. omega arith) (plan_in Valued s t)
-    (on_places (λ _. Unit {0}) (λ _. tt) (plan_in Valued s t)) (judged_in Valued s t) (λ u _. end_of_so (λ _ _. Unit {0}) (λ n _ _. n < 256) (missed_as Valued s t u) u (λ _ _. tt)))
-    (first_in Valued s) tt

@@ -10,6 +10,11 @@ use lib.Dec.{ltb}
 use mir.Syntax.{w8, w64}
 use mir.Val.{Fits}
 use borrow.Author.Tests.{eq-eqb, ne_eqb, lt-ltb, le-ltb}
+use Rattle.std.specs.Prelude.{Ok, Err}
+use Rattle.parsing.specs.declared.faults.Fault.{Fault}
+use Rattle.parsing.specs.declared.faults.Refusal.TheVariants.{TooLong, NotExclusive, BytesAfter}
+use Rattle.parsing.specs.Faults.{number_of}
+use Rattle.std.specs.Prelude.{Option, None, Some}
 use Rattle.meaning.specs.declared.Answer.{Answer}
 use Rattle.meaning.specs.Limits
 use Rattle.meaning.specs.Limits.{format}
@@ -28,19 +33,13 @@ use Rattle.meaning.proofs.SettledLaws.{got_same, next_got, refuse_got}
 use Rattle.meaning.proofs.RangeLaws.{got_place, count_within}
 use Rattle.meaning.proofs.VerifiedLaws.{within_unread}
 use Rattle.meaning.proofs.ReleaseLaws.{Opened, opened, answer_placed, plan_inside, table_below}
-use Rattle.parsing.specs.declared.bytes.Read.{Read}
-use Rattle.parsing.specs.declared.bytes.Read.TheVariants.{Value, Fault}
-use Rattle.parsing.specs.declared.lists.Passed.{Passed}
-use Rattle.parsing.specs.declared.lists.Passed.TheVariants.{To, Fault as Stop}
-use Rattle.parsing.specs.Read.{number_read, passed}
+use Rattle.parsing.specs.Read.{Numbered, Passed, numbered, over, stopped, passed}
 use Rattle.parsing.proofs.ListLaws.{passed_to, passed_stop}
 use Rattle.reading.specs.Noted.{table_noted, noting, outcome, items_slot, slots}
 use Rattle.reading.specs.Planned.{items_of, outcome_met}
 use Rattle.reading.specs.Requested.{tail_noted, plan_first}
 use Rattle.reading.proofs.SectionLaws.{fault_first, noting_got, noting_fault}
 use Rattle.reading.proofs.RequestLaws.{tail_whole}
-use Rattle.finding.specs.declared.places.Found.{Found}
-use Rattle.finding.specs.declared.places.Found.TheVariants.{Nowhere, At}
 use Rattle.finding.specs.Places.{found}
 use Rattle.finding.specs.PlansHeld.{SomePlan}
 use Rattle.finding.specs.TablesHere.{blank, table_in, TableHere}
@@ -66,43 +65,43 @@ unfolding blank
 blank_is = refl
 
 -- OPENING a file.
-pub open_long : (s t : List ℕ) → format.request < length s → outcome_met (Fault 10 0) t ≡ opening_noted s t
+pub open_long : (s t : List ℕ) (why : Fault) → format.request < length s → why ≡ record { refusal = TooLong; place = 0 } → outcome_met (Err why) t ≡ opening_noted s t
 unfolding opening_noted opening outcome_met next
-open_long s t long = sym (ap (λ (g : Got Opening). next g (λ o p. got (record { value = table_noted o.table t; items = o.plans }) p)) (pick_true _ _ _ (lt-ltb _ _ long)))
+open_long s t why long is = rw is (sym (ap (λ (g : Got Opening). next g (λ o p. got (record { value = table_noted o.table t; items = o.plans }) p)) (pick_true _ _ _ (lt-ltb _ _ long))))
 
 module _ (s t u : List ℕ) (first : Passed) (read : outcome first u ≡ noting table_noted (table_at format Flags s 0) t) (short : length s ≤ format.request) where
   opening_is : opening format s ≡ next (table_at format Flags s 0) λ x p. next (count_at 1 Limits.most_plans s p) λ k q. got (record { table = x; table_end = p; plans = k }) q
   unfolding opening
   opening_is = pick_false _ _ _ (le-ltb _ _ short)
 
-  pub open_fault : (k p : ℕ) (v : List ℕ) → first ≡ Stop k p → outcome_met (Fault k p) v ≡ opening_noted s t
+  pub open_fault : (why : Fault) (v : List ℕ) → first ≡ Err why → outcome_met (Err why) v ≡ opening_noted s t
   unfolding opening_noted outcome_met next
-  open_fault k p v stops = rw (opening_is, noting_fault table_noted (table_at format Flags s 0) first t u read k p stops)
+  open_fault why v stops = rw (opening_is, noting_fault table_noted (table_at format Flags s 0) first t u read why stops)
 
-  by_count : (x : Table) (p : ℕ) (g : Got ℕ) → outcome_met (number_read g) (table_noted x t)
-      ≡ next {A = Opening} (next g λ k q. got (record { table = x; table_end = p; plans = k }) q) (λ o q. got (record { value = table_noted o.table t; items = o.plans }) q)
-  unfolding outcome_met number_read next
-  by_count x p (got k i) = refl
-  by_count x p (fault n i) = refl
+  by_count : (x : Table) (p : ℕ) (r : Numbered) → outcome_met r (table_noted x t)
+      ≡ next {A = Opening} (next (numbered r) λ k q. got (record { table = x; table_end = p; plans = k }) q) (λ o q. got (record { value = table_noted o.table t; items = o.plans }) q)
+  unfolding outcome_met next
+  by_count x p (Ok k) = refl
+  by_count x p (Err f) = refl
 
-  pub open_counted : (p : ℕ) (r : Read) → first ≡ To p → r ≡ number_read (count_at 1 Limits.most_plans s p) → outcome_met r u ≡ opening_noted s t
+  pub open_counted : (p : ℕ) (r : Numbered) → first ≡ Ok p → numbered r ≡ (count_at 1 Limits.most_plans s p) → outcome_met r u ≡ opening_noted s t
   unfolding opening_noted next
   open_counted p r goes is =
       let x = noting_got table_noted (table_at format Flags s 0) first t u read p goes in
       let opens : opening format s ≡ next (count_at 1 Limits.most_plans s p) (λ k q. got (record { table = x.0; table_end = p; plans = k }) q) =
       opening_is ∙ ap (λ (g : Got Table). next g λ y e. next (count_at 1 Limits.most_plans s e) λ k q. got (record { table = y; table_end = e; plans = k }) q) x.1 in
-      ap (λ (y : Read). outcome_met y u) is
-      ∙ ap (outcome_met (number_read (count_at 1 Limits.most_plans s p))) x.2
-      ∙ by_count x.0 p (count_at 1 Limits.most_plans s p)
+      ap (outcome_met r) x.2
+      ∙ by_count x.0 p r
+      ∙ ap (λ (g : Got ℕ). next {A = Opening} (next g λ k q. got (record { table = x.0; table_end = p; plans = k }) q) (λ o q. got (record { value = table_noted o.table t; items = o.plans }) q)) is
       ∙ sym (ap (λ (g : Got Opening). next g (λ o q. got (record { value = table_noted o.table t; items = o.plans }) q)) opens)
 
 -- What opening told.
-module _ (s t u : List ℕ) (r : Read) (read : outcome_met r u ≡ opening_noted s t) where
-  open_stop : (k p : ℕ) → r ≡ Fault k p → opening format s ≡ fault k p
+module _ (s t u : List ℕ) (r : Numbered) (read : outcome_met r u ≡ opening_noted s t) where
+  open_stop : (why : Fault) → r ≡ Err why → opening format s ≡ stopped why
   unfolding opening_noted outcome_met
-  open_stop k p is = fault_first (opening format s) (λ o. record { value = table_noted o.table t; items = o.plans }) k p (sym read ∙ rw is)
+  open_stop why is = fault_first (opening format s) (λ o. record { value = table_noted o.table t; items = o.plans }) _ _ (sym read ∙ rw is)
 
-  open_got : (n q : ℕ) → r ≡ Value n q → (o : Opening) × (opening format s ≡ got o q) × (o.plans ≡ n) × (u ≡ table_noted o.table t)
+  open_got : (n q : ℕ) → r ≡ Ok (n, q) → (o : Opening) × (opening format s ≡ got o q) × (o.plans ≡ n) × (u ≡ table_noted o.table t)
   unfolding opening_noted outcome_met
   open_got n q is =
       let whole : opening_noted s t ≡ got (record { value = u; items = n }) q = sym read ∙ rw is in
@@ -115,19 +114,19 @@ module _ (s t u : List ℕ) (r : Read) (read : outcome_met r u ≡ opening_noted
       )
 
   -- How many plans there are.
-  pub plans_there : (n q : ℕ) → r ≡ Value n q → n ≡ plans_in format s
+  pub plans_there : (n q : ℕ) → r ≡ Ok (n, q) → n ≡ plans_in format s
   unfolding plans_in plans_of
   plans_there n q is = let g = open_got n q is in sym (ap plans_of g.1 ∙ g.2)
 
-  pub plans_none : (k p : ℕ) → r ≡ Fault k p → 0 ≡ plans_in format s
+  pub plans_none : (why : Fault) → r ≡ Err why → 0 ≡ plans_in format s
   unfolding plans_in plans_of
-  plans_none k p is = sym (ap plans_of (open_stop k p is))
+  plans_none why is = sym (ap plans_of (open_stop why is))
 
-  pub release_fault : (k p : ℕ) (lent : List ℕ) (budget : ℕ) → r ≡ Fault k p → (a : Answer) → a ≡ record { number = k; input = 1; place = p; count = 0 } → record { answer = a; row = lent } ≡ release format s lent budget
+  pub release_fault : (why : Fault) (lent : List ℕ) (budget : ℕ) → r ≡ Err why → (a : Answer) → a ≡ record { number = number_of why.refusal; input = 1; place = why.place; count = 0 } → record { answer = a; row = lent } ≡ release format s lent budget
   unfolding release release_opened own_answer
-  release_fault k p lent budget is a said = ap (λ (x : Answer). record { answer = x; row = lent }) said ∙ sym (ap (release_opened format s lent budget) (open_stop k p is))
+  release_fault why lent budget is a said = ap (λ (x : Answer). record { answer = x; row = lent }) said ∙ sym (ap (release_opened format s lent budget) (open_stop why is))
 
-  pub opens_here : (n q : ℕ) → r ≡ Value n q → ((i : ℕ) → Fits w8 (get_or s i 0)) → t ≡ blank → OpenedHere s u n q
+  pub opens_here : (n q : ℕ) → r ≡ Ok (n, q) → ((i : ℕ) → Fits w8 (get_or s i 0)) → t ≡ blank → OpenedHere s u n q
   opens_here n q is bytes empty =
       let g = open_got n q is in
       let o = opened format s g.0 q g.1 in
@@ -185,7 +184,7 @@ module _ (s t : List ℕ) (plans start : ℕ) (here : OpenedHere s t plans start
     unfolding release_opened own_answer
     release_9 other a said = ap (λ (x : Answer). record { answer = x; row = lent }) said ∙ sym (opened_so ∙ pick_false _ _ _ (ne_eqb _ _ (λ e. other (e ∙ ap (λ (k : ℕ). 4 * k) here.counts))))
 
-    module _ (sized : length lent ≡ 4 * plans) (first : Passed) (asked : first ≡ passed (table_settled (table_in Flags s) (start - 1))) where
+    module _ (sized : length lent ≡ 4 * plans) (first : Passed) (asked : over first ≡ passed (table_settled (table_in Flags s) (start - 1))) where
       settled_so : release format s lent budget ≡ released lent (next (table_settled (table_in Flags s) (start - 1)) (λ _ _. past_table s budget plans start))
       unfolding release_opened settled_plans past_table
       settled_so =
@@ -194,18 +193,18 @@ module _ (s t : List ℕ) (plans start : ℕ) (here : OpenedHere s t plans start
           ∙ rw (same_table, here.counts) (ap (released lent) (behind_table here.opens.table (start - 1)
           (refuse 20 (byte_after s (plans_at format s here.opens.table plans start)) (λ _. got (answers_at format s here.opens.table budget plans start) start))))
 
-      pub release_first : (k p : ℕ) → first ≡ Stop k p → (a : Answer) → a ≡ record { number = k; input = 1; place = p; count = 0 } → record { answer = a; row = lent } ≡ release format s lent budget
+      pub release_first : (why : Fault) → first ≡ Err why → (a : Answer) → a ≡ record { number = number_of why.refusal; input = 1; place = why.place; count = 0 } → record { answer = a; row = lent } ≡ release format s lent budget
       unfolding released own_answer next
-      release_first k p stops a said = ap (λ (x : Answer). record { answer = x; row = lent }) said ∙ sym (settled_so ∙ rw (passed_stop (table_settled (table_in Flags s) (start - 1)) k p (sym asked ∙ stops)))
+      release_first why stops a said = ap (λ (x : Answer). record { answer = x; row = lent }) said ∙ sym (settled_so ∙ rw (passed_stop (table_settled (table_in Flags s) (start - 1)) why (sym asked ∙ ap over stops)))
 
-      module _ (q : ℕ) (goes : first ≡ To q) where
+      module _ (q : ℕ) (goes : first ≡ Ok q) where
         pub release_then : (a : Answer) (row : List ℕ) → record { answer = a; row = row } ≡ released lent (past_table s budget plans start) → record { answer = a; row = row } ≡ release format s lent budget
         unfolding next
-        release_then a row is = is ∙ sym (settled_so ∙ rw (passed_to (table_settled (table_in Flags s) (start - 1)) q (sym asked ∙ goes)).1)
+        release_then a row is = is ∙ sym (settled_so ∙ rw (passed_to (table_settled (table_in Flags s) (start - 1)) q (sym asked ∙ ap over goes)).1)
 
         pub clean_there : contradiction_in (table_in Flags s) ≡ nowhere
         unfolding table_settled
-        clean_there = (refuse_got _ _ _ (passed_to (table_settled (table_in Flags s) (start - 1)) q (sym asked ∙ goes)).1).0
+        clean_there = (refuse_got _ _ _ (passed_to (table_settled (table_in Flags s) (start - 1)) q (sym asked ∙ ap over goes)).1).0
 
 -- PAST 16 AND 17.
 module _ (s t : List ℕ) (here : TableHere Flags s t) where
@@ -220,12 +219,12 @@ module _ (s t : List ℕ) (here : TableHere Flags s t) where
     actions = second ∙ front_there.actions_are;
   }
 
-module _ (s : List ℕ) (lent : List ℕ) (budget plans start : ℕ) (f : Found) (answer : f ≡ found (byte_after s (plans_at format s (table_in Flags s) plans start))) where
-  pub file_20 : (p : ℕ) → f ≡ At p → (a : Answer) → a ≡ record { number = 20; input = 1; place = p; count = 0 } → record { answer = a; row = lent } ≡ released lent (past_table s budget plans start)
+module _ (s : List ℕ) (lent : List ℕ) (budget plans start : ℕ) (f : Option ℕ) (answer : f ≡ found (byte_after s (plans_at format s (table_in Flags s) plans start))) where
+  pub file_20 : (p : ℕ) → f ≡ Some p → (a : Answer) (why : Fault) → why ≡ record { refusal = BytesAfter; place = p } → a ≡ record { number = number_of why.refusal; input = 1; place = why.place; count = 0 } → record { answer = a; row = lent } ≡ released lent (past_table s budget plans start)
   unfolding released own_answer past_table refuse
-  file_20 p is a said = rw (said, found_at (byte_after s (plans_at format s (table_in Flags s) plans start)) f answer p is)
+  file_20 p is a why is-why said = rw (said, is-why, found_at (byte_after s (plans_at format s (table_in Flags s) plans start)) f answer p is)
 
-  pub file_answered : (row : List ℕ) → f ≡ Nowhere → row ≡ rows (answers_at format s (table_in Flags s) budget plans start)
+  pub file_answered : (row : List ℕ) → f ≡ None → row ≡ rows (answers_at format s (table_in Flags s) budget plans start)
       → (a : Answer) → a ≡ record { number = 0; input = 0; place = 0; count = 0 } → record { answer = a; row = row } ≡ released lent (past_table s budget plans start)
   unfolding released own_answer past_table refuse
   file_answered row is written a said = rw (said, found_none (byte_after s (plans_at format s (table_in Flags s) plans start)) f answer is, written)
@@ -235,18 +234,18 @@ module _ (s : List ℕ) (n m : ℕ) (counted : Counted s n m) (p : ℕ) (t u : L
   read_so : outcome r u ≡ noting (tail_noted Flags) (request_at format Flags s (table_in Flags s) p) t
   read_so = read ∙ rw (counted.fluents, counted.actions) (tail_whole Flags s (table_in Flags s) p t)
 
-  plan_got : (e : ℕ) → r ≡ To e → (y : Request) × (request_at format Flags s (table_in Flags s) p ≡ got y e) × (u ≡ tail_noted Flags y t)
+  plan_got : (e : ℕ) → r ≡ Ok e → (y : Request) × (request_at format Flags s (table_in Flags s) p ≡ got y e) × (u ≡ tail_noted Flags y t)
   plan_got e is = noting_got (tail_noted Flags) (request_at format Flags s (table_in Flags s) p) r t u read_so e is
 
-  plan_stop : (k q : ℕ) → r ≡ Stop k q → request_at format Flags s (table_in Flags s) p ≡ fault k q
-  plan_stop k q is = noting_fault (tail_noted Flags) (request_at format Flags s (table_in Flags s) p) r t u read_so k q is
+  plan_stop : (why : Fault) → r ≡ Err why → request_at format Flags s (table_in Flags s) p ≡ stopped why
+  plan_stop why is = noting_fault (tail_noted Flags) (request_at format Flags s (table_in Flags s) p) r t u read_so why is
 
 -- THE FIRST PASS: what is left of the plans ends where all do.
 pub record Seeking (s : List ℕ) (plans start left p : ℕ) : Type 0 where
   pub same : byte_after s (plans_at format s (table_in Flags s) plans start) ≡ byte_after s (plans_at format s (table_in Flags s) left p)
 
-pub seeking_starts : (s : List ℕ) (plans start : ℕ) → Seeking s plans start plans start
-seeking_starts s plans start = record { same = refl }
+pub seeking_starts : (s : List ℕ) (plans start : ℕ) → Seeking s plans start (plans - 0) start
+seeking_starts s plans start = let same : plans - 0 ≡ plans = omega arith in rw same (record { same = refl })
 
 behind_plan : (s : List ℕ) (y : Request) (x : Got (List Request)) → byte_after s (next x λ rest r. got (y ∷ rest) r) ≡ byte_after s x
 unfolding byte_after next
@@ -258,7 +257,7 @@ module _ (s : List ℕ) (n m : ℕ) (counted : Counted s n m) (plans start left 
     one_less : left ≡ suc (left - 1)
     one_less = omega arith
 
-    pub seeking_next : (e : ℕ) → r ≡ To e → Seeking s plans start (left - 1) e
+    pub seeking_next : (e : ℕ) → r ≡ Ok e → Seeking s plans start (left - 1) e
     unfolding plans_at repeated next
     seeking_next e is =
         let y = plan_got s n m counted p t u r read e is in
@@ -270,25 +269,34 @@ module _ (s : List ℕ) (n m : ℕ) (counted : Counted s n m) (plans start left 
               ∙ behind_plan s y.0 (repeated (request_at format Flags s (table_in Flags s)) (left - 1) e);
         }
 
-    pub seeking_stops : (k q : ℕ) → r ≡ Stop k q → Nowhere ≡ found (byte_after s (plans_at format s (table_in Flags s) plans start))
+    pub seeking_stops : (why : Fault) → r ≡ Err why → None ≡ found (byte_after s (plans_at format s (table_in Flags s) plans start))
     unfolding plans_at repeated next byte_after found
-    seeking_stops k q is =
+    seeking_stops why is =
         sym (ap found (seeks.same
         ∙ ap (λ (i : ℕ). byte_after s (plans_at format s (table_in Flags s) i p)) one_less
-        ∙ ap (λ (g : Got Request). byte_after s (next g λ x i. next (repeated (request_at format Flags s (table_in Flags s)) (left - 1) i) λ rest j. got (x ∷ rest) j)) (plan_stop s n m counted p t u r read k q is)))
+        ∙ ap (λ (g : Got Request). byte_after s (next g λ x i. next (repeated (request_at format Flags s (table_in Flags s)) (left - 1) i) λ rest j. got (x ∷ rest) j)) (plan_stop s n m counted p t u r read why is)))
 
   module _ (none : left ≤ 0) where
     all_read : byte_after s (plans_at format s (table_in Flags s) plans start) ≡ pick (ltb p (length s)) (λ _. at p) (λ _. nowhere)
     unfolding plans_at repeated byte_after
     all_read = let zero_left : left ≡ 0 = omega arith in seeks.same ∙ ap (λ (k : ℕ). byte_after s (plans_at format s (table_in Flags s) k p)) zero_left
 
-    pub seeking_more : p < length s → At p ≡ found (byte_after s (plans_at format s (table_in Flags s) plans start))
+    pub seeking_more : p < length s → Some p ≡ found (byte_after s (plans_at format s (table_in Flags s) plans start))
     unfolding found
     seeking_more more = sym (ap found (all_read ∙ pick_true _ _ _ (lt-ltb _ _ more)))
 
-    pub seeking_none : length s ≤ p → Nowhere ≡ found (byte_after s (plans_at format s (table_in Flags s) plans start))
+    pub seeking_none : length s ≤ p → None ≡ found (byte_after s (plans_at format s (table_in Flags s) plans start))
     unfolding found
     seeking_none over = sym (ap found (all_read ∙ pick_false _ _ _ (le-ltb _ _ over)))
+
+-- The same by the number of the plan.
+module _ (s : List ℕ) (n m : ℕ) (counted : Counted s n m) (plans start i p : ℕ) (seeks : Seeking s plans start (plans - i) p) (t u : List ℕ) (r : Passed) (read : outcome r u ≡ plan_first Flags n m s p t) (some : i < plans) where
+  pub seeking_onward : (e : ℕ) → r ≡ Ok e → Seeking s plans start (plans - (i + 1)) e
+  seeking_onward e is =
+      subst (λ (left : ℕ). Seeking s plans start left e) {x = plans - i - 1} {y = plans - (i + 1)} (omega arith) (seeking_next s n m counted plans start (plans - i) p seeks t u r read (omega arith) e is)
+
+  pub seeking_stopped : (why : Fault) → r ≡ Err why → None ≡ found (byte_after s (plans_at format s (table_in Flags s) plans start))
+  seeking_stopped why is = seeking_stops s n m counted plans start (plans - i) p seeks t u r read (omega arith) why is
 
 -- ONE PLAN at hand. The lent state does not matter to the answer.
 module _ (s t : List ℕ) (here : AtHand Flags s t) (items : ℕ) (is : items ≡ get_or t items_slot 0) where
@@ -298,15 +306,15 @@ module _ (s t : List ℕ) (here : AtHand Flags s t) (items : ℕ) (is : items �
   pub plan_there : SomePlan Flags s t items
   plan_there = record { plan = plan_in Flags s t; held = here.held; items = counts_items }
 
-  module _ (f : Found) (answer : OverlapFound Flags s t items f) (budget : ℕ) where
+  module _ (f : Option ℕ) (answer : OverlapFound Flags s t items f) (budget : ℕ) where
     overlap_is : f ≡ found (overlap_in (plan_in Flags s t))
     overlap_is = answer.holds (plan_in Flags s t) here.held counts_items
 
-    pub plan_18 : (p : ℕ) → f ≡ At p → (a : Answer) → a ≡ record { number = 18; input = 1; place = p; count = 0 } → a ≡ plan_answer format budget (got (request_in Flags s t) 0)
+    pub plan_18 : (p : ℕ) → f ≡ Some p → (a : Answer) → (why : Fault) → why ≡ record { refusal = NotExclusive; place = p } → a ≡ record { number = number_of why.refusal; input = 1; place = why.place; count = 0 } → a ≡ plan_answer format budget (got (request_in Flags s t) 0)
     unfolding plan_answer judge_got next refuse request_in
-    plan_18 p met a said = said ∙ sym (ap (λ (g : Refusals.Found). (judge_settled format [] budget (refuse 18 g (λ _. got (request_in Flags s t) 0))).answer) (found_at (overlap_in (plan_in Flags s t)) f overlap_is p met))
+    plan_18 p met a why is-why said = said ∙ ap (λ (w : Fault). record { number = number_of w.refusal; input = 1; place = w.place; count = 0 }) is-why ∙ sym (ap (λ (g : Refusals.Found). (judge_settled format [] budget (refuse 18 g (λ _. got (request_in Flags s t) 0))).answer) (found_at (overlap_in (plan_in Flags s t)) f overlap_is p met))
 
-    pub plan_walked : f ≡ Nowhere → (lent left : List ℕ) (a : Answer) → record { answer = a; state = left } ≡ within lent budget (walk_held Flags s t)
+    pub plan_walked : f ≡ None → (lent left : List ℕ) (a : Answer) → record { answer = a; state = left } ≡ within lent budget (walk_held Flags s t)
         → guards_in s t ≡ [] → mode_in t ≡ 0 → a ≡ plan_answer format budget (got (request_in Flags s t) 0)
     unfolding plan_answer judge_got next refuse request_in
     plan_walked none lent left a walks unguarded known =
@@ -429,7 +437,7 @@ module _ (s t row : List ℕ) (budget plans start k p : ℕ) (answers : Answerin
   answer_inside : (plan_answer format budget (request_at format Flags s (table_in Flags s) p)).place ≤ length s
   answer_inside = answer_placed format s (table_in Flags s) budget (table_below format s (table_in Flags s) answers.here.table_end answers.here.table) p answers.inside
 
-  module _ (e : ℕ) (is : r ≡ To e) where
+  module _ (e : ℕ) (is : r ≡ Ok e) where
     y : (y : Request) × (request_at format Flags s (table_in Flags s) p ≡ got y e) × (u ≡ tail_noted Flags y t)
     y = plan_got s n m counted p t u r read e is
 
@@ -472,24 +480,24 @@ module _ (s t row : List ℕ) (budget plans start k p : ℕ) (answers : Answerin
             ∙ ap (λ (xs : List ℕ). take (4 * (k + 1)) xs ++ rows (answers_at format s (table_in Flags s) budget (plans - (k + 1)) e)) (sym written);
       }
 
-  module _ (number q : ℕ) (is : r ≡ Stop number q) where
-    fails_there : request_at format Flags s (table_in Flags s) p ≡ fault number q
-    fails_there = plan_stop s n m counted p t u r read number q is
+  module _ (why : Fault) (is : r ≡ Err why) where
+    fails_there : request_at format Flags s (table_in Flags s) p ≡ stopped why
+    fails_there = plan_stop s n m counted p t u r read why is
 
-    pub answering_fault : (a : Answer) → a ≡ record { number = number; input = 1; place = q; count = 0 } → a.place < 65536
+    pub answering_fault : (a : Answer) → a ≡ record { number = number_of why.refusal; input = 1; place = why.place; count = 0 } → a.place < 65536
     unfolding plan_answer next judge_got
     answering_fault a said =
-        let at : a.place ≡ q = ap (λ (x : Answer). x.place) said in
+        let at : a.place ≡ why.place = ap (λ (x : Answer). x.place) said in
         let inside = answer_inside in
-        let same : (plan_answer format budget (request_at format Flags s (table_in Flags s) p)).place ≡ q = ap (λ (g : Got Request). (plan_answer format budget g).place) fails_there in
+        let same : (plan_answer format budget (request_at format Flags s (table_in Flags s) p)).place ≡ why.place = ap (λ (g : Got Request). (plan_answer format budget g).place) fails_there in
         let short = answers.here.short in
         omega arith
 
     pub answering_few : k + 1 ≤ plans
     answering_few = omega arith
 
-    module _ (a : Answer) (said : a ≡ record { number = number; input = 1; place = q; count = 0 }) (left : List ℕ) (put : left ≡ with_answer row k a) where
-      written : left ≡ with_answer row k (record { number = number; input = 1; place = q; count = 0 })
+    module _ (a : Answer) (said : a ≡ record { number = number_of why.refusal; input = 1; place = why.place; count = 0 }) (left : List ℕ) (put : left ≡ with_answer row k a) where
+      written : left ≡ with_answer row k (record { number = number_of why.refusal; input = 1; place = why.place; count = 0 })
       written = put ∙ ap (with_answer row k) said
 
       pub answering_sized : length left ≡ 4 * plans
@@ -500,7 +508,7 @@ module _ (s t row : List ℕ) (budget plans start k p : ℕ) (answers : Answerin
       answering_stops last rest =
           rest
           ∙ ap (λ (xs : List ℕ). take (4 * (k + 1)) xs ++ rows (replicate (plans - (k + 1)) unreached)) written
-          ∙ sym (put_next row k (record { number = number; input = 1; place = q; count = 0 }) (replicate (plans - (k + 1)) unreached) answering_room)
+          ∙ sym (put_next row k (record { number = number_of why.refusal; input = 1; place = why.place; count = 0 }) (replicate (plans - (k + 1)) unreached) answering_room)
           ∙ sym (this_first ∙ ap (λ (g : Got Request). take (4 * k) row ++ rows (plan_answer format budget g ∷ after_plan (plans - (k + 1)) g (λ e. answers_at format s (table_in Flags s) budget (plans - (k + 1)) e))) fails_there)
 
 module _ (s t row : List ℕ) (budget plans start k p : ℕ) (answers : Answering s t row budget plans start k p) where

@@ -5,43 +5,43 @@ use native.Mathlib.Omega.{arith}
 use mathlib.Core.Path.{◌≡◌, refl, sym, ◌∙◌, ap, subst}
 use mathlib.Core.Bool.{true, false}
 use mathlib.Core.List.{List, map}
-use lib.ListN.{length, get_or, drop}
-use lib.Dec.{eqb, ltb}
+use lib.ListN.{length, get_or}
+use lib.Dec.{ltb}
 use mir.Syntax.{w64}
 use mir.Val.{Fits}
-use borrow.Author.Tests.{eqb-true, eqb-false, eq-eqb, ltb-false}
+use borrow.Author.Tests.{ltb-false}
 use Rattle.meaning.specs.declared.Answer.{Answer}
 use Rattle.meaning.specs.Tests.{those_of}
+use Rattle.meaning.specs.Limits
 use Rattle.meaning.specs.Limits.{format}
 use Rattle.meaning.specs.Reading.{literals_in}
 use Rattle.meaning.specs.Values.{numbers, values_of, fits}
 use Rattle.meaning.specs.ValueStates.{mark_left}
-use Rattle.meaning.specs.States.{State, state_of}
-use Rattle.meaning.specs.Walk.{End, fine, Walked}
+use Rattle.meaning.specs.States.{State}
+use Rattle.meaning.specs.Walk.{no_state, in_state, End, fine, missed, stopped, Walked}
 use Rattle.meaning.specs.Judging.{ended, within}
-use Rattle.meaning.proofs.TestLaws.{by-test, pick_true, pick_false}
+use Rattle.meaning.proofs.TestLaws.{by-test, clash, pick_true, pick_false}
 use Rattle.reading.specs.Noted.{items_slot}
-use Rattle.reading.specs.Listed.{listed, listed_as, ValuesHere}
+use Rattle.reading.specs.Listed.{listed_as, ValuesHere}
 use Rattle.steps.specs.AtHand.{AtHand, MarkedAs}
 use Rattle.steps.specs.Rests.{start}
-use Rattle.steps.specs.Steps.{mode_in, values_mode, form_in, first_in, met_from, walk_held}
+use Rattle.steps.specs.Steps.{first_in, met_from, walk_held}
 use Rattle.steps.proofs.HandLaws.{starts, facts_here}
-use Rattle.steps.proofs.FirstLaws.{first_flags, first_valued, walks_first}
-use Rattle.walking.specs.Standing.{Standing, nothing, spent, so_far, spend, add, stateless, end_in, standing, Going, tally_slots}
-use Rattle.walking.specs.Walks.{Fit}
-use Rattle.walking.proofs.StandingLaws.{stands_open, end_missed, end_stateless, end_stopped, sized_after}
-use Rattle.verdicts.specs.Telling.{told, ByteMarks, Tallied}
-use Rattle.verdicts.proofs.KeepingLaws.{EndHas}
-use Rattle.verdicts.proofs.MarkedLaws.{first_as, held_bytes, EndSmall, held_small}
+use Rattle.steps.proofs.FirstLaws.{first_valued, walks_first}
+use Rattle.walking.specs.declared.tally.Tally.{Tally}
+use Rattle.walking.specs.declared.tally.Course.{Course}
+use Rattle.walking.specs.declared.tally.Course.TheVariants.{Fine, Missed, Stuck, Broken, TooWide, TooMany, Spent}
+use Rattle.walking.specs.Standing.{Standing, spent, so_far, spend, add, stands, standing}
+use Rattle.verdicts.specs.Telling.{told, is_spent, Tallied}
+use Rattle.verdicts.proofs.MarkedLaws.{first_as}
 use Rattle.meaning.specs.declared.Form.{Form}
-use Rattle.meaning.specs.declared.Form.TheVariants.{Flags, Valued}
+use Rattle.meaning.specs.declared.Form.TheVariants.{Valued}
 
 -- STANDINGS.
 so_far≢spent : {l : ℕ} {e : End State} → so_far l e ≡ spent → ⊥
 so_far≢spent e = subst is_so_far e tt
   where
     is_so_far : Standing → Type 0
-    is_so_far nothing = ⊥
     is_so_far spent = ⊥
     is_so_far (so_far l e) = Unit {0}
 
@@ -49,17 +49,23 @@ left_same : {l m : ℕ} {d e : End State} → so_far l d ≡ so_far m e → l �
 left_same {l} is = ap left is
   where
     left : Standing → ℕ
-    left nothing = l
     left spent = l
     left (so_far m e) = m
 
-end_same : {l m : ℕ} {d e : End State} → so_far l d ≡ so_far m e → d ≡ e
-end_same {d = d} is = ap end is
-  where
-    end : Standing → End State
-    end nothing = d
-    end spent = d
-    end (so_far m e) = e
+-- Where the budget is not spent, it stands so far.
+stands_so_far : (c : Course) (left p : ℕ) (marks : State) → is_spent c ≡ false → (e : End State) × (stands c left p marks ≡ so_far left e)
+unfolding stands
+stands_so_far Fine left p marks some = (fine, refl)
+stands_so_far Missed left p marks some = (missed p marks, refl)
+stands_so_far Stuck left p marks some = (stopped Limits.not_executable p (in_state marks), refl)
+stands_so_far Broken left p marks some = (stopped Limits.guard_broken p (in_state marks), refl)
+stands_so_far TooWide left p marks some = (stopped Limits.sensing_too_wide p no_state, refl)
+stands_so_far TooMany left p marks some = (stopped Limits.too_many_cases p no_state, refl)
+stands_so_far Spent left p marks some = clash refl some
+
+stands_left : (tally : Tally) → is_spent tally.course ≡ false → (e : End State) × (standing tally ≡ so_far tally.left e)
+unfolding standing
+stands_left tally some = stands_so_far tally.course tally.left tally.place tally.marks some
 
 -- A WALK of the whole budget: what is told of it is what the definition says.
 module _ (budget : ℕ) (w : Walked State) where
@@ -82,85 +88,39 @@ module _ (budget : ℕ) (w : Walked State) where
       ap (told lent budget) (spends_within below) ∙ ap (λ (c : ℕ). ended lent c w.end) counted ∙ sym (pick_false (ltb budget w.count) _ _ below))
 
   -- The tally after it.
-  module _ (tally : List ℕ) (sized : length tally ≡ tally_slots) (stands : standing tally ≡ spend budget (λ e. e) w) where
-    within_is : (get_or tally 0 0 ≡ 3 → ⊥) → so_far (get_or tally 2 0) (end_in tally) ≡ so_far (budget - w.count) w.end
-    within_is going =
-        let is = sym (stands_open tally sized going) ∙ stands in
-        by-test (ltb budget w.count) (λ above. absurd (so_far≢spent (is ∙ spends_above above))) (λ below. is ∙ spends_within below)
-
-    end_state : (get_or tally 0 0 ≡ 0 → ⊥) → stateless (get_or tally 0 0) ≡ false → EndHas ByteMarks (end_in tally) → ByteMarks (drop 3 tally)
-    end_state some stated marked =
-        by-test (eqb (get_or tally 0 0) 1)
-        (λ t. subst (EndHas ByteMarks) (end_missed tally sized (eqb-true _ _ t)) marked)
-        (λ f. subst (EndHas ByteMarks) (end_stopped tally sized some (eqb-false _ _ f) stated) marked)
-
-    -- It holds 0, 1, or the number with which the walk stopped.
-    end_small : EndSmall (end_in tally) → get_or tally 0 0 < 256
-    end_small small =
-        by-test (eqb (get_or tally 0 0) 0)
-        (λ t. let none : get_or tally 0 0 ≡ 0 = eqb-true _ _ t in omega (arith, none))
-        (λ n.
-        by-test (eqb (get_or tally 0 0) 1)
-        (λ t. let one : get_or tally 0 0 ≡ 1 = eqb-true _ _ t in omega (arith, one))
-        (λ f.
-        by-test (stateless (get_or tally 0 0))
-        (λ t. subst EndSmall (end_stateless tally sized t) small)
-        (λ m. subst EndSmall (end_stopped tally sized (eqb-false _ _ n) (eqb-false _ _ f) m) small)))
-
-    tallied : EndHas ByteMarks w.end → EndSmall w.end → Tallied tally budget
-    tallied marked small = record {
-      sized = sized;
-      fewer = λ going. let left = left_same (within_is going) in omega (arith, left);
-      small = λ going. end_small (subst EndSmall (sym (end_same (within_is going))) small);
-      marked = λ going some stated. end_state some stated (subst (EndHas ByteMarks) (sym (end_same (within_is going))) marked);
-    }
+  tallied : (tally : Tally) → standing tally ≡ spend budget (λ e. e) w → Tallied tally budget
+  tallied tally is = record {
+    fewer = λ some.
+        let left = stands_left tally some in
+        by-test (ltb budget w.count)
+        (λ above. absurd (so_far≢spent (sym left.1 ∙ is ∙ spends_above above)))
+        (λ below. let same : tally.left ≡ budget - w.count = left_same (sym left.1 ∙ is ∙ spends_within below) in omega (arith, same));
+  }
 
 -- THE WALK of a request at hand, from its first state.
 module _ (form : Form) (s t : List ℕ) (here : AtHand form s t) (items at : ℕ) (counted : items ≡ get_or t items_slot 0) (starts : at ≡ start items)
-    (marks : State) (is : marks ≡ first_in form s) (budget : ℕ) (before after : List ℕ)
-    (opens : standing before ≡ so_far budget fine) (going : Going before) (walks : standing after ≡ add (standing before) (met_from form s t at marks)) where
+    (marks : State) (is : marks ≡ first_in form s) (budget : ℕ) (before after : Tally)
+    (opens : standing before ≡ so_far budget fine) (walks : standing after ≡ add (standing before) (met_from form s t at marks)) where
   stands_so : standing after ≡ spend budget (λ e. e) (walk_held form s t)
   unfolding add
   stands_so = walks ∙ ap (λ (a : Standing). add a (met_from form s t at marks)) opens ∙ ap (spend budget (λ e. e)) (walks_first s t here items at counted starts marks is)
 
   pub plan_tallied : Tallied after budget
-  plan_tallied = tallied budget (walk_held form s t) after (sized_after before going (met_from form s t at marks) after walks) stands_so (held_bytes form s t here) (held_small form s t)
+  plan_tallied = tallied budget (walk_held form s t) after stands_so
 
   pub plan_judged : (lent left : List ℕ) (answer : Answer) → record { answer = answer; state = left } ≡ told lent budget (standing after)
       → record { answer = answer; state = left } ≡ within lent budget (walk_held form s t)
   plan_judged lent left answer says = says ∙ ap (told lent budget) stands_so ∙ told_within budget (walk_held form s t) lent
 
-pub first_fits : (s t : List ℕ) (marks : State) → marks ≡ first_in (form_in t) s → Fit s t marks
-first_fits s t marks is = record { marked = subst (MarkedAs (form_in t) s) (sym is) (first_as (form_in t) s) }
+pub first_fits : (form : Form) (s marks : State) → marks ≡ first_in form s → MarkedAs form s marks
+first_fits form s marks is = subst (MarkedAs form s) (sym is) (first_as form s)
 
--- THE FORM that it goes by is that of its mode.
-pub flags_mode : (t : List ℕ) (mode : ℕ) → mode_in t ≡ mode → eqb mode values_mode ≡ false → form_in t ≡ Flags
-unfolding form_in
-flags_mode t mode is other = pick_false _ _ _ (ap (λ (m : ℕ). eqb m values_mode) is ∙ other)
-
-pub plain_mode : (t : List ℕ) → mode_in t ≡ 0 → form_in t ≡ Flags
-plain_mode t is = flags_mode t 0 is refl
-
-pub values_there : (t : List ℕ) → mode_in t ≡ values_mode → form_in t ≡ Valued
-unfolding form_in
-values_there t is = pick_true _ _ _ (eq-eqb (mode_in t) values_mode is)
-
-pub hand_in : (form : Form) (s t : List ℕ) → AtHand form s t → form_in t ≡ form → AtHand (form_in t) s t
-hand_in form s t here is = subst (λ (f : Form). AtHand f s t) (sym is) here
-
-pub flags_first : (s t : List ℕ) → AtHand Flags s t → form_in t ≡ Flags → (marks : State) → marks ≡ state_of format (listed s 2) → marks ≡ first_in (form_in t) s
-flags_first s t here is marks state = first_flags s t here marks state ∙ ap (λ (f : Form). first_in f s) (sym is)
-
-pub valued_first : (s t : List ℕ) → AtHand Valued s t → form_in t ≡ Valued → (n : ℕ) → n ≡ get_or s 0 0 → (marks : State)
-    → marks ≡ map (λ (f : ℕ). mark_left (those_of (fits (literals_in s) (listed_as Valued s (2 + n)) f) (values_of (literals_in s) f))) (numbers 0 format.state) → marks ≡ first_in (form_in t) s
-valued_first s t here is n byte marks state =
+-- THE FIRST STATE of a request with values.
+pub valued_first : (s t : List ℕ) → AtHand Valued s t → (n : ℕ) → n ≡ get_or s 0 0 → (marks : State)
+    → marks ≡ map (λ (f : ℕ). mark_left (those_of (fits (literals_in s) (listed_as Valued s (2 + n)) f) (values_of (literals_in s) f))) (numbers 0 format.state) → marks ≡ first_in Valued s
+valued_first s t here n byte marks state =
     first_valued s t here marks
     (state ∙ ap (λ (k : ℕ). map (λ (f : ℕ). mark_left (those_of (fits (literals_in s) (listed_as Valued s (2 + k)) f) (values_of (literals_in s) f))) (numbers 0 format.state)) byte)
-    ∙ ap (λ (f : Form). first_in f s) (sym is)
-
-pub judged_in_form : (form : Form) (s t : List ℕ) → form_in t ≡ form → (lent left : List ℕ) (budget : ℕ) (answer : Answer)
-    → record { answer = answer; state = left } ≡ within lent budget (walk_held (form_in t) s t) → record { answer = answer; state = left } ≡ within lent budget (walk_held form s t)
-judged_in_form form s t is lent left budget answer says = says ∙ ap (λ (f : Form). within lent budget (walk_held f s t)) is
 
 -- The facts of a request with values stand behind the numbers of its values.
 pub facts_there : (s t : List ℕ) → AtHand Valued s t → (n : ℕ) → n ≡ get_or s 0 0 → ValuesHere s (2 + n)

@@ -1,6 +1,8 @@
 ghost use Rattle.std.specs.Prelude.{◌≡◌};
+ghost use Rattle.parsing.specs.Faults.{number_of};
 
 use meaning::Answer;
+use parsing::faults::Fault;
 
 // Answers that are no refusal of a request, and the input that a place is in, named once as in the definitions' Limits (FORMAT 4.3 to 4.7, 4.26).
 pub const VERIFIED: u8 = 0;
@@ -42,9 +44,16 @@ pub fn uncounted(number: u8, input: u8, place: usize) -> Answer
     ensures { result ≡ record { number = number; input = input; place = place; count = 0 } }
 {
     Answer {
-        number: number,
-        input: input,
-        place: place,
+        number,
+        input,
+        place,
         count: 0,
     }
+}
+
+// The answer that a fault in an input is.
+pub fn refused(fault: Fault, input: u8) -> Answer
+    ensures { result ≡ record { number = number_of fault.refusal; input = input; place = fault.place; count = 0 } }
+{
+    uncounted(u8::from(fault.refusal), input, fault.place)
 }

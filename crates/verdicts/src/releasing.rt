@@ -9,80 +9,68 @@ ghost use Rattle.reading.specs.Planned.{outcome_met};
 ghost use Rattle.finding.specs.Places.{found};
 ghost use Rattle.finding.specs.TablesHere.{table_in, TableHere};
 ghost use Rattle.steps.specs.Held.{guards_in, request_in};
-ghost use Rattle.steps.specs.AtHand.{AtHand};
 ghost use Rattle.steps.specs.Steps.{mode_in};
 ghost use Rattle.verdicts.specs.Releasing.{opening_noted, Counted, OpenedHere, with_answer, with_unreached, past_table};
 ghost use Rattle.meaning.specs.declared.Form.TheVariants.{Flags};
 
 use super::answers;
-use super::answers::uncounted;
+use super::answers::{refused, uncounted};
 use super::walked::walk_plan;
-use finding::places::Found;
 use meaning::{Answer, Form};
-use parsing::bytes::{Read, count_at, wide};
+use parsing::bytes::{count_at, wide};
+use parsing::faults::{Fault, Refusal};
 use parsing::limits;
-use parsing::lists::Passed;
+use parsing::shapes::OfFlags;
 use reading::notes;
 use reading::notes::{Notes, get};
 use reading::requests::{request_at, table_at};
 use refusing::refusal_18::overlap;
 use refusing::settled::table_refused;
+use steps::request::Request;
 
 // A row has four numbers for each plan.
 pub const ROW_NUMBERS: usize = 4;
 
 // What stands before the plans: sections 1 to 5, which are noted, and the number of plans.
-fn open_file(file: &[u8], t: &mut Notes) -> Read
+fn open_file(file: &[u8], t: &mut Notes) -> Result<(usize, usize), Fault>
     ensures { outcome_met result t.new ≡ opening_noted file.now t.old }
 {
     if limits::REQUEST < file.len() {
-        return Read::Fault(limits::TOO_LONG, 0);
+        return Err(Refusal::TooLong.at(0));
     }
-    match table_at(Form::Flags, file, 0, t) {
-        Passed::To(p) => count_at(1, limits::PLANS, file, p),
-        Passed::Fault(k, p) => Read::Fault(k, p),
-    }
+    let plans = table_at::<OfFlags>(file, 0, t)?;
+    count_at(1, limits::PLANS, file, plans)
 }
 
 // The first byte after the last of the plans that start at a place, where every plan is read and there is one. What the plans leave in the notes here nobody asks for.
-fn byte_after(n: usize, m: usize, file: &[u8], plans: usize, start: usize) -> Found
+fn byte_after(n: usize, m: usize, file: &[u8], plans: usize, start: usize) -> Option<usize>
     requires { Counted file.now n m }
     ensures { result ≡ found (byte_after file.now (plans_at format file.now (table_in Flags file.now) plans start)) }
 {
     let mut t: Notes = [0u16; notes::SLOTS];
-    let mut left = plans;
     let mut p = start;
-    while 0 < left {
-        match request_at(Form::Flags, n, m, file, p, &mut t) {
-            Passed::To(e) => {
-                p = e;
-                left -= 1;
-            }
-            Passed::Fault(_, _) => {
-                return Found::Nowhere;
-            }
+    for _ in 0..plans {
+        match request_at::<OfFlags>(n, m, file, p, &mut t) {
+            Ok(after) => p = after,
+            Err(_) => return None,
         }
     }
-    if p < file.len() {
-        return Found::At(p);
-    }
-    Found::Nowhere
+    if p < file.len() { Some(p) } else { None }
 }
 
 // What the walk call answers of the plan at hand: 18, or how its walk ended. The state concerned is handed to nobody.
-fn answer_plan(file: &[u8], t: &Notes, budget: u32) -> Answer
-    requires at_hand { AtHand Flags file.now t.now }
-    requires t_value { guards_in file.now t.now ≡ [] }
-    requires t_value_2 { mode_in t.now ≡ 0 }
-    ensures { result ≡ plan_answer format budget (got (request_in Flags file.now t.now) 0) }
+fn answer_plan(r: &Request<OfFlags>, budget: u32) -> Answer
+    requires guards { guards_in r.now.bytes.now r.now.notes.now ≡ [] }
+    requires mode { mode_in r.now.notes.now ≡ 0 }
+    ensures { result ≡ plan_answer format budget (got (request_in Flags r.now.bytes.now r.now.notes.now) 0) }
 {
-    let items = get(t, notes::ITEMS);
-    match overlap(Form::Flags, file, t, items) {
-        Found::Nowhere => {
+    let items = get(r.notes, notes::ITEMS);
+    match overlap(Form::Flags, r.bytes, r.notes, items) {
+        None => {
             let mut state = [0u8; limits::FLUENTS];
-            walk_plan(file, t, &mut state, budget)
+            walk_plan(r, &mut state, budget)
         }
-        Found::At(p) => uncounted(limits::NOT_EXCLUSIVE, answers::THE_REQUEST, p),
+        Some(p) => refused(Refusal::NotExclusive.at(p), answers::THE_REQUEST),
     }
 }
 
@@ -105,14 +93,12 @@ fn leave_unreached(row: &mut [u32], k: usize, plans: usize)
     requires row_len { length row.old ≡ 4 * plans }
     ensures { row.new ≡ with_unreached row.old k plans }
 {
-    let mut i = k;
-    while i < plans {
+    for i in k..plans {
         put_answer(
             row,
             i,
             uncounted(answers::NOT_REACHED, answers::NEITHER_INPUT, 0),
         );
-        i += 1;
     }
 }
 
@@ -134,18 +120,16 @@ fn answer_plans(
     requires row_len { length row.old ≡ 4 * plans }
     ensures { row.new ≡ rows (answers_at format file.now (table_in Flags file.now) budget plans start) }
 {
-    let mut k = 0;
     let mut p = start;
-    while k < plans {
-        match request_at(Form::Flags, n, m, file, p, t) {
-            Passed::To(e) => {
-                let answer = answer_plan(file, t, budget);
+    for k in 0..plans {
+        match request_at::<OfFlags>(n, m, file, p, t) {
+            Ok(after) => {
+                let answer = answer_plan(&Request::of(file, t), budget);
                 put_answer(row, k, answer);
-                p = e;
-                k += 1;
+                p = after;
             }
-            Passed::Fault(number, at) => {
-                put_answer(row, k, uncounted(number, answers::THE_REQUEST, at));
+            Err(fault) => {
+                put_answer(row, k, refused(fault, answers::THE_REQUEST));
                 leave_unreached(row, k + 1, plans);
                 return;
             }
@@ -171,11 +155,11 @@ fn answer_file(
     let n = wide(file[0]);
     let m = wide(file[1]);
     match byte_after(n, m, file, plans, start) {
-        Found::Nowhere => {
+        None => {
             answer_plans(n, m, file, t, row, budget, plans, start);
             uncounted(answers::VERIFIED, answers::NEITHER_INPUT, 0)
         }
-        Found::At(p) => uncounted(limits::BYTES_AFTER, answers::THE_REQUEST, p),
+        Some(p) => refused(Refusal::BytesAfter.at(p), answers::THE_REQUEST),
     }
 }
 
@@ -195,8 +179,8 @@ fn release_opened(
         return uncounted(answers::STATE_LENGTH, answers::NEITHER_INPUT, 0);
     }
     match table_refused(Form::Flags, file, t, start - 1) {
-        Passed::To(_) => answer_file(file, t, row, budget, plans, start),
-        Passed::Fault(k, p) => uncounted(k, answers::THE_REQUEST, p),
+        Ok(_) => answer_file(file, t, row, budget, plans, start),
+        Err(fault) => refused(fault, answers::THE_REQUEST),
     }
 }
 
@@ -206,8 +190,8 @@ pub fn release(file: &[u8], row: &mut [u32], budget: u32) -> Answer
 {
     let mut t: Notes = [0u16; notes::SLOTS];
     match open_file(file, &mut t) {
-        Read::Value(plans, start) => release_opened(file, &mut t, row, budget, plans, start),
-        Read::Fault(k, p) => uncounted(k, answers::THE_REQUEST, p),
+        Ok((plans, start)) => release_opened(file, &mut t, row, budget, plans, start),
+        Err(fault) => refused(fault, answers::THE_REQUEST),
     }
 }
 
@@ -217,7 +201,7 @@ pub fn plans(file: &[u8]) -> usize
 {
     let mut t: Notes = [0u16; notes::SLOTS];
     match open_file(file, &mut t) {
-        Read::Value(count, _) => count,
-        Read::Fault(_, _) => 0,
+        Ok((count, _)) => count,
+        Err(_) => 0,
     }
 }

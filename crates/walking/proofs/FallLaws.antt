@@ -3,16 +3,15 @@ use Prim.Native.Nat.{ℕ, ◌+◌, ◌-◌, ◌*◌, ◌≤◌, ◌<◌}
 use native.Mathlib.Omega.{arith}
 use mathlib.Core.Path.{◌≡◌, sym, ◌∙◌, ap}
 use mathlib.Core.List.{List}
-use lib.ListN.{length, get_or}
+use lib.ListN.{get_or}
+use Rattle.std.specs.Prelude.{Option, Some}
 use Rattle.meaning.specs.Limits.{format}
+use Rattle.meaning.specs.declared.Form.{Form}
 use Rattle.meaning.specs.States.{State}
-use Rattle.finding.specs.declared.places.Found.{Found}
-use Rattle.finding.specs.declared.places.Found.TheVariants.{At}
 use Rattle.steps.specs.Held.{plan_in}
 use Rattle.steps.specs.Rests.{Position}
-use Rattle.steps.specs.Steps.{form_in, Followed, Chosen}
-use Rattle.walking.specs.Walks.{Fit, action_at}
-use Rattle.walking.proofs.FitLaws.{fit_sized}
+use Rattle.steps.specs.Steps.{Followed, Chosen}
+use Rattle.walking.specs.Walks.{action_at}
 
 -- What falls: the items left, and among calls at one item the fluents left. The readings of a fluent come before those of its higher values.
 abbrev pub walk_measure : (at : ℕ) → ℕ
@@ -31,7 +30,7 @@ higher_measure i f = (format.items - i) * (2 * format.fluents + 2) + 2 * (format
 pub fork_falls : (i f g μ : ℕ) → fork_measure i f ≡ μ → f < g → g < format.fluents → fork_measure i g < μ
 fork_falls i f g μ is rises near = omega arith
 
-pub fork_walk_falls : (s t : List ℕ) (i f r μ : ℕ) → fork_measure i f ≡ μ → f < format.fluents → Followed (form_in t) s t i r → walk_measure r < μ
+pub fork_walk_falls : {form : Form} (s t : List ℕ) (i f r μ : ℕ) → fork_measure i f ≡ μ → f < format.fluents → Followed form s t i r → walk_measure r < μ
 fork_walk_falls s t i f r μ is small follows = let h = follows.later in omega arith
 
 pub fork_higher_falls : (i f μ : ℕ) → fork_measure i f ≡ μ → higher_measure i f < μ
@@ -40,7 +39,7 @@ fork_higher_falls i f μ is = omega arith
 pub higher_falls : (i f g μ : ℕ) → higher_measure i f ≡ μ → f < g → g < format.fluents → higher_measure i g < μ
 higher_falls i f g μ is rises near = omega arith
 
-pub higher_walk_falls : (s t : List ℕ) (i f r μ : ℕ) → higher_measure i f ≡ μ → f < format.fluents → Followed (form_in t) s t i r → walk_measure r < μ
+pub higher_walk_falls : {form : Form} (s t : List ℕ) (i f r μ : ℕ) → higher_measure i f ≡ μ → f < format.fluents → Followed form s t i r → walk_measure r < μ
 higher_walk_falls s t i f r μ is small follows = let h = follows.later in omega arith
 
 -- The walk from a position calls what walks an item from there on.
@@ -50,21 +49,18 @@ walk_branching_falls start i μ is later near = omega arith
 pub walk_fork_falls : (start i f μ : ℕ) → walk_measure start ≡ μ → start ≤ i → i < format.items → fork_measure i f < μ
 walk_fork_falls start i f μ is later near = omega arith
 
-pub branching_walk_falls : (s t : List ℕ) (i : ℕ) (marks : State) (f : Found) (q μ : ℕ) → branching_measure i ≡ μ → Chosen (form_in t) s t i marks f → f ≡ At q → walk_measure q < μ
+pub branching_walk_falls : {form : Form} (s t : List ℕ) (i : ℕ) (marks : State) (f : Option ℕ) (q μ : ℕ) → branching_measure i ≡ μ → Chosen form s t i marks f → f ≡ Some q → walk_measure q < μ
 branching_walk_falls s t i marks f q μ is chosen taken = let h = chosen.later q taken in omega arith
 
-pub follow_falls : (s t : List ℕ) (i r : ℕ) → Followed (form_in t) s t i r → i < format.items → format.items - r < format.items - i
+pub follow_falls : {form : Form} (s t : List ℕ) (i r : ℕ) → Followed form s t i r → i < format.items → format.items - r < format.items - i
 follow_falls s t i r follows near = let h = follows.later in omega arith
 
 -- What the calls require.
-pub followed_position : (s t : List ℕ) (i r : ℕ) → Followed (form_in t) s t i r → Position (plan_in (form_in t) s t) r
+pub followed_position : {form : Form} (s t : List ℕ) (i r : ℕ) → Followed form s t i r → Position (plan_in form s t) r
 followed_position s t i r follows = follows.at
 
-pub chosen_position : (s t : List ℕ) (i : ℕ) (marks : State) (f : Found) (q : ℕ) → Chosen (form_in t) s t i marks f → f ≡ At q → Position (plan_in (form_in t) s t) q
+pub chosen_position : {form : Form} (s t : List ℕ) (i : ℕ) (marks : State) (f : Option ℕ) (q : ℕ) → Chosen form s t i marks f → f ≡ Some q → Position (plan_in form s t) q
 chosen_position s t i marks f q chosen taken = chosen.at q taken
-
-pub marked_sized : (s t : List ℕ) (marks : State) → Fit s t marks → length marks ≡ format.state
-marked_sized s t marks marked = fit_sized s t marks marked
 
 pub opens_branching : (s t : List ℕ) (i : ℕ) → action_at s t i ≡ 255 → get_or s (get_or t (0 + i) 0) 0 ≡ 255
 unfolding action_at

@@ -1,7 +1,4 @@
 pub mod StandingLaws
-pub mod TallyLaws
-pub mod PlacesFit
-pub mod AskedLaws
 pub mod FitLaws
 pub mod FallLaws
 pub mod WalkArms

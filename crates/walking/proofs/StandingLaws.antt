@@ -2,22 +2,21 @@
 -- above it wherever the code finds out. Assumes nothing.
 use Prim.Native.Nat.{ℕ, ◌+◌, ◌-◌, ◌≤◌, ◌<◌}
 use native.Mathlib.Omega.{arith}
-use mathlib.Core.Path.{◌≡◌, refl, sym, ◌∙◌, ap, subst}
-use mathlib.Core.Bool.{true, false}
-use mathlib.Core.List.{List}
-use mathlib.Core.Logic.{⊎_elim}
-use lib.ListN.{length, get_or, set, drop, replicate, length-set}
-use lib.Seq.{get_or-set_same, get_or-set_other, drop-set-lt}
-use lib.Dec.{eqb, leb, ltb, leb-suc-suc}
-use borrow.Author.Tests.{ltb-true, ltb-false, eqb-true, eqb-false, lt-ltb, le-ltb, eq-eqb, ne_eqb}
-use Rattle.meaning.specs.Tests.{either, pick}
-use Rattle.meaning.specs.Limits
+use mathlib.Core.Path.{◌≡◌, refl, sym, ◌∙◌, ap}
+use mathlib.Core.Bool.{Bool, true, false}
+use mathlib.Core.Logic.{◌⊎◌, ⊎_elim}
+use lib.Dec.{ltb}
+use borrow.Author.Tests.{ltb-true, ltb-false, lt-ltb, le-ltb}
+use Rattle.meaning.specs.Tests.{both}
 use Rattle.meaning.specs.Refusals
 use Rattle.meaning.specs.Refusals.{nowhere, at}
 use Rattle.meaning.specs.States.{State}
-use Rattle.meaning.specs.Walk.{Concerned, no_state, in_state, End, fine, missed, stopped, Walked, stopped_at, counted, keep_miss, after_miss, after_end, and_then, end_of}
-use Rattle.meaning.proofs.TestLaws.{by-test, either_split, pick_true, pick_false}
-use Rattle.walking.specs.Standing.{Standing, nothing, spent, so_far, spend, add, one, stateless, end_in, standing, Going, Notable, end_by, Held, tally_slots}
+use Rattle.meaning.specs.Walk.{Concerned, no_state, End, fine, missed, stopped, Walked, stopped_at, counted, keep_miss, after_miss, after_end, and_then, end_of}
+use Rattle.meaning.proofs.TestLaws.{by-test, clash, pick_true, pick_false}
+use Rattle.walking.specs.declared.tally.Tally.{Tally}
+use Rattle.walking.specs.declared.tally.Course.{Course}
+use Rattle.walking.specs.declared.tally.Course.TheVariants.{Fine, Missed, Stuck, Broken, TooWide, TooMany, Spent}
+use Rattle.walking.specs.Standing.{Standing, spent, so_far, spend, add, one, stands, standing, number_of, stateless, goes_on, Going}
 
 -- SPENDING. A walk within what is left, or above it.
 spend_within : (left : ℕ) (then : End State → End State) (w : Walked State) → w.count ≤ left → spend left then w ≡ so_far (left - w.count) (then w.end)
@@ -76,7 +75,6 @@ module _ (left c : ℕ) (more : Unit {0} → Walked State) where
 
 pub add_then : (a : Standing) (w : Walked State) (more : Unit {0} → Walked State) → add a (and_then w more) ≡ add (add a w) (more tt)
 unfolding add and_then
-add_then nothing w more = refl
 add_then spent w more = refl
 add_then (so_far left (stopped n p u)) w more = refl
 add_then (so_far left fine) w more =
@@ -93,207 +91,144 @@ pub add_counted : (a : Standing) (w : Walked State) → add a (counted 1 w) ≡ 
 unfolding and_then after_end one
 add_counted a w = add_then a one (λ _. w)
 
--- WHAT CONCERNS NO STATE is neither a miss nor a spent budget.
-stateless_large : (number : ℕ) → stateless number ≡ true → 3 < number
-unfolding stateless
-stateless_large number none =
-    ⊎_elim (λ e. let is = eqb-true number 37 e in omega (arith, is)) (λ e. let is = eqb-true number 44 e in omega (arith, is))
-    (either_split (eqb number Limits.sensing_too_wide) (eqb number Limits.too_many_cases) none)
+-- THE TALLY. Where the walk does not go on, nothing is added.
+stands_over : (c : Course) (left p : ℕ) (s : State) → goes_on c ≡ false → (w : Walked State) → stands c left p s ≡ add (stands c left p s) w
+unfolding goes_on stands add
+stands_over Fine left p s off w = clash refl off
+stands_over Missed left p s off w = clash refl off
+stands_over Stuck left p s off w = refl
+stands_over Broken left p s off w = refl
+stands_over TooWide left p s off w = refl
+stands_over TooMany left p s off w = refl
+stands_over Spent left p s off w = refl
 
-pub stateless_not : (number : ℕ) → eqb number Limits.sensing_too_wide ≡ false → eqb number Limits.too_many_cases ≡ false → stateless number ≡ false
-unfolding stateless either
-stateless_not number wide many = rw (wide, many) refl
-
--- THE TALLY.
-unsized : (tally : List ℕ) → (length tally ≡ tally_slots → ⊥) → standing tally ≡ nothing
+pub add_over : (tally : Tally) → goes_on tally.course ≡ false → (w : Walked State) → standing tally ≡ add (standing tally) w
 unfolding standing
-unsized tally h = pick_false _ _ _ (ne_eqb _ _ h)
-
-module _ (tally : List ℕ) (sized : length tally ≡ tally_slots) where
-  pub stands_open : (get_or tally 0 0 ≡ 3 → ⊥) → standing tally ≡ so_far (get_or tally 2 0) (end_in tally)
-  unfolding standing
-  stands_open h = pick_true _ _ _ (eq-eqb _ _ sized) ∙ pick_false _ _ _ (ne_eqb _ _ h)
-
-  pub stands_spent : get_or tally 0 0 ≡ 3 → standing tally ≡ spent
-  unfolding standing
-  stands_spent h = pick_true _ _ _ (eq-eqb _ _ sized) ∙ pick_true _ _ _ (eq-eqb _ _ h)
-
-  end_fine : get_or tally 0 0 ≡ 0 → end_in tally ≡ fine
-  unfolding end_in
-  end_fine h = pick_true _ _ _ (eq-eqb _ _ h)
-
-  pub end_missed : get_or tally 0 0 ≡ 1 → end_in tally ≡ missed (get_or tally 1 0) (drop 3 tally)
-  unfolding end_in
-  end_missed h = pick_false (eqb (get_or tally 0 0) 0) _ _ (ne_eqb (get_or tally 0 0) 0 (λ e. omega arith)) ∙ pick_true (eqb (get_or tally 0 0) 1) _ _ (eq-eqb _ _ h)
-
-  pub end_stateless : stateless (get_or tally 0 0) ≡ true → end_in tally ≡ stopped (get_or tally 0 0) (get_or tally 1 0) no_state
-  unfolding end_in
-  end_stateless h =
-      let large = stateless_large (get_or tally 0 0) h in
-      pick_false (eqb (get_or tally 0 0) 0) _ _ (ne_eqb (get_or tally 0 0) 0 (λ e. omega arith)) ∙ pick_false (eqb (get_or tally 0 0) 1) _ _ (ne_eqb (get_or tally 0 0) 1 (λ e. omega arith))
-      ∙ pick_true (stateless (get_or tally 0 0)) _ _ h
-
-  pub end_stopped : (get_or tally 0 0 ≡ 0 → ⊥) → (get_or tally 0 0 ≡ 1 → ⊥) → stateless (get_or tally 0 0) ≡ false
-      → end_in tally ≡ stopped (get_or tally 0 0) (get_or tally 1 0) (in_state (drop 3 tally))
-  unfolding end_in
-  end_stopped h g m =
-      pick_false (eqb (get_or tally 0 0) 0) _ _ (ne_eqb _ _ h) ∙ pick_false (eqb (get_or tally 0 0) 1) _ _ (ne_eqb _ _ g)
-      ∙ pick_false (stateless (get_or tally 0 0)) _ _ m
-
-  pub stands_fine : get_or tally 0 0 ≡ 0 → standing tally ≡ so_far (get_or tally 2 0) fine
-  stands_fine h = stands_open (λ e. omega arith) ∙ ap (so_far (get_or tally 2 0)) (end_fine h)
-
-  pub stands_missed : get_or tally 0 0 ≡ 1 → standing tally ≡ so_far (get_or tally 2 0) (missed (get_or tally 1 0) (drop 3 tally))
-  stands_missed h = stands_open (λ e. omega arith) ∙ ap (so_far (get_or tally 2 0)) (end_missed h)
-
-  pub stands_stateless : stateless (get_or tally 0 0) ≡ true → standing tally ≡ so_far (get_or tally 2 0) (stopped (get_or tally 0 0) (get_or tally 1 0) no_state)
-  stands_stateless h = let large = stateless_large (get_or tally 0 0) h in stands_open (λ e. omega arith) ∙ ap (so_far (get_or tally 2 0)) (end_stateless h)
-
-  pub stands_stopped : (get_or tally 0 0 ≡ 3 → ⊥) → (get_or tally 0 0 ≡ 0 → ⊥) → (get_or tally 0 0 ≡ 1 → ⊥) → stateless (get_or tally 0 0) ≡ false
-      → standing tally ≡ so_far (get_or tally 2 0) (stopped (get_or tally 0 0) (get_or tally 1 0) (in_state (drop 3 tally)))
-  stands_stopped within some other stated = stands_open within ∙ ap (so_far (get_or tally 2 0)) (end_stopped some other stated)
-
--- It says something.
-abbrev Says : Standing → Type 0
-Says nothing = ⊥
-Says spent = Unit {0}
-Says (so_far l e) = Unit {0}
-
-spend_says : (left : ℕ) (then : End State → End State) (w : Walked State) → Says (spend left then w)
-unfolding spend
-spend_says left then w = by-test (ltb left w.count) (λ t. subst Says (sym (pick_true _ _ _ t)) tt) (λ f. subst Says (sym (pick_false _ _ _ f)) tt)
-
--- Where the walk does not go on, nothing is added.
-pub add_over : (tally : List ℕ) → (get_or tally 0 0 < 2 → ⊥) → (w : Walked State) → standing tally ≡ add (standing tally) w
-unfolding add
-add_over tally h w =
-    by-test (eqb (length tally) tally_slots)
-    (λ s. let sized = eqb-true _ _ s in
-    by-test (eqb (get_or tally 0 0) 3)
-    (λ t. let is = stands_spent tally sized (eqb-true _ _ t) in is ∙ ap (λ (a : Standing). add a w) (sym is))
-    (λ f.
-    by-test (stateless (get_or tally 0 0))
-    (λ m. let is = stands_stateless tally sized m in is ∙ ap (λ (a : Standing). add a w) (sym is))
-    (λ n. let is = stands_stopped tally sized (eqb-false _ _ f) (λ e. h (omega arith)) (λ e. h (omega arith)) n in is ∙ ap (λ (a : Standing). add a w) (sym is))))
-    (λ f. let is = unsized tally (eqb-false _ _ f) in is ∙ ap (λ (a : Standing). add a w) (sym is))
-
--- 0 or 1.
-pub up_to_one : (n : ℕ) → leb n 1 ≡ ltb n 2
-up_to_one n = sym (leb-suc-suc n 1)
+add_over tally off w = stands_over tally.course tally.left tally.place tally.marks off w
 
 -- WHERE IT GOES ON, it stands so far, and nothing has stopped it.
-module _ (tally : List ℕ) (going : Going tally) where
-  by_going : (C : End State → Type 0) → C fine → ((p : ℕ) (s : State) → C (missed p s)) → (standing tally ≡ so_far (get_or tally 2 0) (end_in tally)) × C (end_in tally)
-  by_going C f g =
-      let on = going.on in (
-        stands_open tally going.sized (λ e. omega arith),
-        by-test (eqb (get_or tally 0 0) 0)
-            (λ t. subst C (sym (end_fine tally going.sized (eqb-true _ _ t))) f)
-            (λ n. subst C (sym (end_missed tally going.sized (few (get_or tally 0 0) (eqb-false _ _ n) on))) (g (get_or tally 1 0) (drop 3 tally))),
-      )
-    where
-      few : (n : ℕ) → (n ≡ 0 → ⊥) → n < 2 → n ≡ 1
-      few n a b = by-test (eqb n 1) (λ t. eqb-true _ _ t) (λ f. let c = eqb-false n 1 f in absurd (a (omega (arith, c))))
+stands_on : (C : Standing → Type 0) (c : Course) (left p : ℕ) (s : State) → goes_on c ≡ true → C (so_far left fine) → ((q : ℕ) (u : State) → C (so_far left (missed q u))) → C (stands c left p s)
+unfolding goes_on stands
+stands_on C Fine left p s on f g = f
+stands_on C Missed left p s on f g = g p s
+stands_on C Stuck left p s on f g = clash on refl
+stands_on C Broken left p s on f g = clash on refl
+stands_on C TooWide left p s on f g = clash on refl
+stands_on C TooMany left p s on f g = clash on refl
+stands_on C Spent left p s on f g = clash on refl
 
-  -- What stops it.
-  pub add_stopped : (n p : ℕ) (u : Concerned State) → so_far (get_or tally 2 0) (stopped n p u) ≡ add (standing tally) (stopped_at n p u)
-  unfolding add stopped_at keep_miss
-  add_stopped n p u =
-      let how = by_going (λ e. so_far (get_or tally 2 0) (stopped n p u) ≡ add (so_far (get_or tally 2 0) e) (stopped_at n p u))
-      (sym (spend_none (get_or tally 2 0) (λ x. x) (stopped n p u)))
-      (λ q s. sym (spend_none (get_or tally 2 0) (keep_miss q s) (stopped n p u))) in
-      how.1 ∙ ap (λ (a : Standing). add a (stopped_at n p u)) (sym how.0)
-
-  -- The tally keeps its size, whatever is walked.
-  pub sized_after : (w : Walked State) (after : List ℕ) → standing after ≡ add (standing tally) w → length after ≡ tally_slots
-  unfolding add
-  sized_after w after is =
-      let how = by_going (λ e. Says (add (so_far (get_or tally 2 0) e) w))
-      (spend_says (get_or tally 2 0) (λ x. x) w)
-      (λ q u. spend_says (get_or tally 2 0) (keep_miss q u) w) in
-      by-test (eqb (length after) tally_slots)
-      (λ t. eqb-true _ _ t)
-      (λ f. absurd (subst Says (ap (λ (a : Standing). add a w) (sym how.0) ∙ sym is ∙ unsized after (eqb-false _ _ f)) how.1))
+-- What stops it.
+pub add_stopped : (tally : Tally) → Going tally → (n p : ℕ) (u : Concerned State) → so_far tally.left (stopped n p u) ≡ add (standing tally) (stopped_at n p u)
+unfolding standing add stopped_at keep_miss
+add_stopped tally going n p u =
+    stands_on (λ a. so_far tally.left (stopped n p u) ≡ add a (stopped_at n p u)) tally.course tally.left tally.place tally.marks going.on
+    (sym (spend_none tally.left (λ x. x) (stopped n p u)))
+    (λ q s. sym (spend_none tally.left (keep_miss q s) (stopped n p u)))
 
 -- What an end state adds once it is counted: where nothing was missed before, its end; else nothing.
-pub add_fine : (tally : List ℕ) → length tally ≡ tally_slots → get_or tally 0 0 ≡ 0 → (e : End State) → add (standing tally) (record { count = 0; end = e }) ≡ so_far (get_or tally 2 0) e
-unfolding add
-add_fine tally sized none e = ap (λ (a : Standing). add a (record { count = 0; end = e })) (stands_fine tally sized none) ∙ spend_none (get_or tally 2 0) (λ x. x) e
+pub stands_fine : (tally : Tally) → tally.course ≡ Fine → standing tally ≡ so_far tally.left fine
+unfolding standing stands
+stands_fine tally none = ap (λ (c : Course). stands c tally.left tally.place tally.marks) none
 
-pub add_kept : (tally : List ℕ) → length tally ≡ tally_slots → (get_or tally 0 0 ≡ 0 → ⊥) → (f : Refusals.Found) (s : State) → standing tally ≡ add (standing tally) (record { count = 0; end = end_of f s })
-unfolding add end_of keep_miss
-add_kept tally sized some f s =
-    by-test (eqb (get_or tally 0 0) 1)
-    (λ t.
-    let is = stands_missed tally sized (eqb-true _ _ t) in
-    is ∙ sym (keeps f) ∙ ap (λ (a : Standing). add a (record { count = 0; end = end_of f s })) (sym is))
-    (λ n. let other = eqb-false (get_or tally 0 0) 1 n in add_over tally (λ h. some (omega (arith, other))) (record { count = 0; end = end_of f s }))
-  where
-    keeps : (f : Refusals.Found) → spend (get_or tally 2 0) (keep_miss (get_or tally 1 0) (drop 3 tally)) (record { count = 0; end = end_of f s }) ≡ so_far (get_or tally 2 0) (missed (get_or tally 1 0) (drop 3 tally))
-    keeps nowhere = spend_none (get_or tally 2 0) (keep_miss (get_or tally 1 0) (drop 3 tally)) fine
-    keeps (at q) = spend_none (get_or tally 2 0) (keep_miss (get_or tally 1 0) (drop 3 tally)) (missed q s)
+pub add_fine : (tally : Tally) → tally.course ≡ Fine → (e : End State) → add (standing tally) (record { count = 0; end = e }) ≡ so_far tally.left e
+unfolding add
+add_fine tally none e = ap (λ (a : Standing). add a (record { count = 0; end = e })) (stands_fine tally none) ∙ spend_none tally.left (λ x. x) e
+
+module _ (left p : ℕ) (s : State) (f : Refusals.Found) (u : State) where
+  kept_missed : spend left (keep_miss p s) (record { count = 0; end = end_of f u }) ≡ so_far left (missed p s)
+  unfolding end_of keep_miss
+  kept_missed = kept f
+    where
+      kept : (f : Refusals.Found) → spend left (keep_miss p s) (record { count = 0; end = end_of f u }) ≡ so_far left (missed p s)
+      kept nowhere = spend_none left (keep_miss p s) fine
+      kept (at q) = spend_none left (keep_miss p s) (missed q u)
+
+  stands_kept : (c : Course) → (c ≡ Fine → ⊥) → stands c left p s ≡ add (stands c left p s) (record { count = 0; end = end_of f u })
+  unfolding stands add
+  stands_kept Fine some = absurd (some refl)
+  stands_kept Missed some = sym kept_missed
+  stands_kept Stuck some = refl
+  stands_kept Broken some = refl
+  stands_kept TooWide some = refl
+  stands_kept TooMany some = refl
+  stands_kept Spent some = refl
+
+pub add_kept : (tally : Tally) → (tally.course ≡ Fine → ⊥) → (f : Refusals.Found) (u : State) → standing tally ≡ add (standing tally) (record { count = 0; end = end_of f u })
+unfolding standing
+add_kept tally some f u = stands_kept tally.left tally.place tally.marks f u tally.course some
 
 -- ONE COUNTED, or the budget spent.
-module _ (tally : List ℕ) (going : Going tally) where
-  pub count_spent : get_or tally 2 0 ≡ 0 → standing (set tally 0 3) ≡ add (standing tally) one
-  unfolding add one
-  count_spent none =
-      let how = by_going tally going (λ e. add (so_far (get_or tally 2 0) e) one ≡ spent)
-      (spend_above (get_or tally 2 0) (λ x. x) one (omega arith))
-      (λ q u. spend_above (get_or tally 2 0) (keep_miss q u) one (omega arith)) in
-      let sized = going.sized in
-      stands_spent (set tally 0 3) (length-set tally 0 3 ∙ sized) (get_or-set_same tally 0 3 0 (omega arith)) ∙ sym how.1 ∙ ap (λ (a : Standing). add a one) (sym how.0)
+counted_on : (c : Course) (left p : ℕ) (s : State) → goes_on c ≡ true → 1 ≤ left → stands c (left - 1) p s ≡ add (stands c left p s) one
+unfolding goes_on stands add one keep_miss
+counted_on Fine left p s on some = sym (spend_within left (λ x. x) one some)
+counted_on Missed left p s on some = sym (spend_within left (keep_miss p s) one some)
+counted_on Stuck left p s on some = clash on refl
+counted_on Broken left p s on some = clash on refl
+counted_on TooWide left p s on some = clash on refl
+counted_on TooMany left p s on some = clash on refl
+counted_on Spent left p s on some = clash on refl
 
-  pub count_left : (get_or tally 2 0 ≡ 0 → ⊥) → standing (set tally 2 (get_or tally 2 0 - 1)) ≡ add (standing tally) one
-  unfolding end_in add one keep_miss
-  count_left some =
-      let left = get_or tally 2 0 in
-      let sized = going.sized in
-      let how = by_going tally going (λ e. add (so_far left e) one ≡ so_far (left - 1) e)
-      (spend_within left (λ x. x) one (omega arith))
-      (λ q u. spend_within left (keep_miss q u) one (omega arith)) in
-      let next = set tally 2 (left - 1) in
-      let number : get_or next 0 0 ≡ get_or tally 0 0 = get_or-set_other tally 2 0 (left - 1) 0 (λ e. omega arith) in
-      let place : get_or next 1 0 ≡ get_or tally 1 0 = get_or-set_other tally 2 1 (left - 1) 0 (λ e. omega arith) in
-      let fewer : get_or next 2 0 ≡ left - 1 = get_or-set_same tally 2 (left - 1) 0 (omega arith) in
-      let marks : drop 3 next ≡ drop 3 tally = drop-set-lt 3 tally 2 (left - 1) (omega arith) in
-      let same : end_in next ≡ end_in tally = rw (number, place, marks) in
-      let on = going.on in
-      stands_open next (length-set tally 2 (left - 1) ∙ sized) (λ e. omega arith) ∙ rw (fewer, same) (sym how.1 ∙ ap (λ (a : Standing). add a one) (sym how.0))
+module _ (tally : Tally) (going : Going tally) where
+  pub count_spent : tally.left ≡ 0 → standing (record tally { course = Spent }) ≡ add (standing tally) one
+  unfolding standing stands add one
+  count_spent none =
+      stands_on (λ a. spent ≡ add a one) tally.course tally.left tally.place tally.marks going.on
+      (sym (spend_above tally.left (λ x. x) one (omega arith)))
+      (λ q u. sym (spend_above tally.left (keep_miss q u) one (omega arith)))
+
+  pub count_left : (tally.left ≡ 0 → ⊥) → standing (record tally { left = tally.left - 1 }) ≡ add (standing tally) one
+  unfolding standing
+  count_left some = counted_on tally.course tally.left tally.place tally.marks going.on (omega arith)
 
 -- NOTED.
-pub notable : (number : ℕ) → 1 ≤ number → eqb number 3 ≡ false → eqb number Limits.sensing_too_wide ≡ false → eqb number Limits.too_many_cases ≡ false → Notable number
-notable number least other wide many = record { some = least; within = eqb-false number 3 other; stated = stateless_not number wide many }
+pub noted : (tally : Tally) (c : Course) (place : ℕ) (marks : State) → standing (record tally { course = c; place = place; marks = marks }) ≡ stands c tally.left place marks
+unfolding standing
+noted tally c place marks = refl
 
 -- Too many readings or cases.
-pub gives_up : (tally : List ℕ) → Going tally → (number : ℕ) → stateless number ≡ true → (place : ℕ)
-    → standing (set (set tally 0 number) 1 place) ≡ so_far (get_or tally 2 0) (stopped number place no_state)
-gives_up tally going number none place =
-    let sized = going.sized in
-    let first : List ℕ = set tally 0 number in
-    let after : List ℕ = set first 1 place in
-    let long : length first ≡ tally_slots = length-set tally 0 number ∙ sized in
-    let is : get_or after 0 0 ≡ number = get_or-set_other first 1 0 place 0 (λ e. omega arith) ∙ get_or-set_same tally 0 number 0 (omega arith) in
-    let left : get_or after 2 0 ≡ get_or tally 2 0 = get_or-set_other first 1 2 place 0 (λ e. omega arith) ∙ get_or-set_other tally 0 2 number 0 (λ e. omega arith) in
-    stands_stateless after (length-set first 1 place ∙ long) (ap stateless is ∙ none) ∙ rw (is, left, get_or-set_same first 1 place 0 (omega arith))
+gives_up : (c : Course) (left place : ℕ) (s : State) → stateless c ≡ true → stands c left place s ≡ so_far left (stopped (number_of c) place no_state)
+unfolding stateless stands number_of
+gives_up Fine left p s none = clash none refl
+gives_up Missed left p s none = clash none refl
+gives_up Stuck left p s none = clash none refl
+gives_up Broken left p s none = clash none refl
+gives_up TooWide left p s none = refl
+gives_up TooMany left p s none = refl
+gives_up Spent left p s none = clash none refl
 
-pub noted : (tally : List ℕ) → Going tally → (number place : ℕ) → Notable number → (marks after : List ℕ) → Held (set tally 0 number) place marks after → standing after ≡ so_far (get_or tally 2 0) (end_by number place marks)
-unfolding end_by pick
-noted tally going number place notable marks after held =
-    let sized = going.sized in
-    let is : get_or after 0 0 ≡ number = held.number ∙ get_or-set_same tally 0 number 0 (omega arith) in
-    let left : get_or after 2 0 ≡ get_or tally 2 0 = held.left ∙ get_or-set_other tally 0 2 number 0 (λ e. omega arith) in
-    let long : length after ≡ tally_slots = held.sized ∙ length-set tally 0 number ∙ sized in
-    by-test (eqb number 1)
-    (λ t. let one-is = eqb-true _ _ t in stands_missed after long (is ∙ one-is) ∙ rw (left, held.placed, held.marked, t))
-    (λ f.
-    let least = notable.some in
-    stands_stopped after long (λ e. notable.within (sym is ∙ e)) (λ e. omega (arith, least)) (λ e. eqb-false _ _ f (sym is ∙ e)) (ap stateless is ∙ notable.stated) ∙ rw (is, left, held.placed, held.marked, f))
+pub given_up : (tally : Tally) (c : Course) (place : ℕ) → stateless c ≡ true → standing (record tally { course = c; place = place }) ≡ so_far tally.left (stopped (number_of c) place no_state)
+unfolding standing
+given_up tally c place none = gives_up c tally.left place tally.marks none
 
 -- OPENED.
-pub opens : (budget : ℕ) → standing (set (replicate tally_slots 0) 2 budget) ≡ so_far budget fine
-unfolding standing end_in pick
-opens budget = refl
+pub opens : (budget place : ℕ) (marks : State) → standing (record { left = budget; course = Fine; place = place; marks = marks }) ≡ so_far budget fine
+unfolding standing stands
+opens budget place marks = refl
 
-pub opens_going : (budget : ℕ) → Going (set (replicate tally_slots 0) 2 budget)
-opens_going budget = record { sized = refl; on = omega arith }
+pub opens_going : (budget place : ℕ) (marks : State) → Going (record { left = budget; course = Fine; place = place; marks = marks })
+unfolding goes_on
+opens_going budget place marks = record { on = refl }
+
+-- WHETHER IT GOES ON.
+pub on_fine : (c : Course) → (c ≡ Fine) ⊎ (c ≡ Missed) → true ≡ goes_on c
+unfolding goes_on
+on_fine c is = ⊎_elim (λ e. sym (ap goes_on e)) (λ e. sym (ap goes_on e)) is
+
+pub on_other : (c : Course) → (c ≡ Fine → ⊥) → (c ≡ Missed → ⊥) → false ≡ goes_on c
+unfolding goes_on
+on_other Fine nothing something = absurd (nothing refl)
+on_other Missed nothing something = absurd (something refl)
+on_other Stuck nothing something = refl
+on_other Broken nothing something = refl
+on_other TooWide nothing something = refl
+on_other TooMany nothing something = refl
+on_other Spent nothing something = refl
+
+-- WHETHER THERE IS MORE TO READ.
+pub more_on : (on : Bool) (c : Course) → on ≡ goes_on c → on ≡ true → (wide m last v : ℕ) → wide ≡ m → last ≡ v → ltb wide last ≡ both (goes_on c) (ltb m v)
+unfolding both
+more_on on c says yes-on wide m last v is e = rw (sym says, yes-on, is, e)
+
+pub more_over : (on : Bool) (c : Course) → on ≡ goes_on c → on ≡ false → (w : Bool) → on ≡ both (goes_on c) w
+unfolding both
+more_over on c says no-more w = rw (sym says, no-more)

@@ -1,15 +1,16 @@
 -- How a walk stands within its budget, and what the walk of a part adds to that. The defined walk knows no budget; this ties the two.
-use Rattle.std.specs.Prelude.{ℕ, ◌+◌, ◌-◌, ◌≤◌, ◌<◌, ◌≡◌, Bool, true, false, List, length, get_or, drop, eqb, ltb}
-use Rattle.meaning.specs.Tests.{either, pick}
-use Rattle.meaning.specs.Limits.{format}
+use Rattle.std.specs.Prelude.{ℕ, ◌-◌, ◌≡◌, Bool, true, false, ltb}
+use Rattle.meaning.specs.Tests.{pick}
 use Rattle.meaning.specs.Limits
 use Rattle.meaning.specs.Refusals.{Found, nowhere, at}
 use Rattle.meaning.specs.States.{State}
 use Rattle.meaning.specs.Walk.{no_state, in_state, End, fine, missed, stopped, Walked, keep_miss}
+use Rattle.walking.specs.declared.tally.Tally.{Tally}
+use Rattle.walking.specs.declared.tally.Course.{Course}
+use Rattle.walking.specs.declared.tally.Course.TheVariants.{Fine, Missed, Stuck, Broken, TooWide, TooMany, Spent}
 
--- The budget is spent; or so much is left, and the walk so far ended so. A tally of another size says nothing.
+-- The budget is spent; or so much is left, and the walk so far ended so.
 pub data Standing : Type 0 where
-  nothing : Standing
   spent : Standing
   so_far : (left : ℕ) → End State → Standing
 
@@ -19,7 +20,6 @@ spend left then w = pick (ltb left w.count) (λ _. spent) (λ _. so_far (left - 
 
 -- Nothing is walked after what has stopped or is spent; a first miss is kept (FORMAT 8.8, 8.12, 8.14, 8.19).
 unfoldable pub add : Standing → Walked State → Standing
-add nothing w = nothing
 add spent w = spent
 add (so_far left fine) w = spend left (λ e. e) w
 add (so_far left (missed p s)) w = spend left (keep_miss p s) w
@@ -29,51 +29,54 @@ add (so_far left (stopped n p u)) w = so_far left (stopped n p u)
 unfoldable pub one : Walked State
 one = record { count = 1; end = fine }
 
--- THE TALLY holds it: the answer's number so far, the place that goes with it, the budget left, and the marks of the state concerned. A number
--- that is neither 0 nor 1 is that of what stopped the walk; 37 and 44 concern no state (FORMAT 22.11, 24.16).
-abbrev pub tally_slots : ℕ
-tally_slots = 3 + format.state
+-- THE TALLY holds it: how the walk has gone so far, the place that goes with it, the budget left, and the marks of the state concerned. What stops a walk
+-- with too many readings or cases concerns no state (FORMAT 22.11, 24.16).
+unfoldable pub stands : Course → (left place : ℕ) → State → Standing
+stands Fine left p s = so_far left fine
+stands Missed left p s = so_far left (missed p s)
+stands Stuck left p s = so_far left (stopped Limits.not_executable p (in_state s))
+stands Broken left p s = so_far left (stopped Limits.guard_broken p (in_state s))
+stands TooWide left p s = so_far left (stopped Limits.sensing_too_wide p no_state)
+stands TooMany left p s = so_far left (stopped Limits.too_many_cases p no_state)
+stands Spent left p s = spent
 
-unfoldable pub stateless : (number : ℕ) → Bool
-stateless number = either (eqb number Limits.sensing_too_wide) (eqb number Limits.too_many_cases)
+unfoldable pub standing : Tally → Standing
+standing tally = stands tally.course tally.left tally.place tally.marks
 
-unfoldable pub end_in : List ℕ → End State
-end_in tally =
-    pick (eqb (get_or tally 0 0) Limits.verified) (λ _. fine) λ _.
-    pick (eqb (get_or tally 0 0) Limits.goal_missed) (λ _. missed (get_or tally 1 0) (drop 3 tally)) λ _.
-    pick (stateless (get_or tally 0 0)) (λ _. stopped (get_or tally 0 0) (get_or tally 1 0) no_state) λ _.
-    stopped (get_or tally 0 0) (get_or tally 1 0) (in_state (drop 3 tally))
+-- The answer's number that says so.
+unfoldable pub number_of : Course → ℕ
+number_of Fine = Limits.verified
+number_of Missed = Limits.goal_missed
+number_of Stuck = Limits.not_executable
+number_of Broken = Limits.guard_broken
+number_of TooWide = Limits.sensing_too_wide
+number_of TooMany = Limits.too_many_cases
+number_of Spent = Limits.budget_spent
 
-unfoldable pub standing : List ℕ → Standing
-standing tally =
-    pick (eqb (length tally) tally_slots)
-    (λ _. pick (eqb (get_or tally 0 0) Limits.budget_spent) (λ _. spent) (λ _. so_far (get_or tally 2 0) (end_in tally)))
-    (λ _. nothing)
+-- What concerns no state.
+unfoldable pub stateless : Course → Bool
+stateless Fine = false
+stateless Missed = false
+stateless Stuck = false
+stateless Broken = false
+stateless TooWide = true
+stateless TooMany = true
+stateless Spent = false
 
--- Neither stopped nor spent: the number is 0 or 1.
-pub record Going (tally : List ℕ) : Type 0 where
-  pub sized : length tally ≡ tally_slots
-  pub on : get_or tally 0 0 < 2
+-- Neither stopped nor spent: nothing is missed, or something is.
+unfoldable pub goes_on : Course → Bool
+goes_on Fine = true
+goes_on Missed = true
+goes_on Stuck = false
+goes_on Broken = false
+goes_on TooWide = false
+goes_on TooMany = false
+goes_on Spent = false
 
--- What may be noted with a state: not 0, by which nothing is missed, not 3, by which the budget is spent, and neither 37 nor 44, which concern none.
-pub record Notable (number : ℕ) : Type 0 where
-  pub some : 1 ≤ number
-  pub within : number ≡ Limits.budget_spent → ⊥
-  pub stated : stateless number ≡ false
-
--- What is noted: a miss, or what stops the walk.
-unfoldable pub end_by : (number place : ℕ) → State → End State
-end_by number p s = pick (eqb number Limits.goal_missed) (λ _. missed p s) (λ _. stopped number p (in_state s))
-
--- A tally that holds the place and the marks, and is otherwise as before.
-pub record Held (before : List ℕ) (place : ℕ) (marks after : List ℕ) : Type 0 where
-  pub sized : length after ≡ length before
-  pub number : get_or after 0 0 ≡ get_or before 0 0
-  pub placed : get_or after 1 0 ≡ place
-  pub left : get_or after 2 0 ≡ get_or before 2 0
-  pub marked : drop 3 after ≡ marks
+pub record Going (tally : Tally) : Type 0 where
+  pub on : goes_on tally.course ≡ true
 
 -- A state is met, and this guard, if any, is found broken: that stops the walk, and else nothing changes.
-pub record Breaks (found : Found) (marks before : List ℕ) (broken : Bool) (after : List ℕ) : Type 0 where
-  pub stops : broken ≡ true → (p : ℕ) × (found ≡ at p) × (standing after ≡ so_far (get_or before 2 0) (stopped Limits.guard_broken p (in_state marks)))
+pub record Breaks (found : Found) (marks : State) (before : Tally) (broken : Bool) (after : Tally) : Type 0 where
+  pub stops : broken ≡ true → (p : ℕ) × (found ≡ at p) × (standing after ≡ so_far before.left (stopped Limits.guard_broken p (in_state marks)))
   pub passes : broken ≡ false → (found ≡ nowhere) × (after ≡ before)

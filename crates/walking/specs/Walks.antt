@@ -1,18 +1,12 @@
--- The parts of the walk that the code walks, in the form that the notes say.
+-- The parts of the walk that the code walks, in either form.
 use Rattle.std.specs.Prelude.{ℕ, ◌+◌, ◌-◌, List, [], ◌∷◌, get_or, set}
-use Rattle.meaning.specs.Limits
 use Rattle.meaning.specs.declared.Form.{Form}
 use Rattle.meaning.specs.Values.{numbers}
 use Rattle.meaning.specs.States.{State}
 use Rattle.meaning.specs.Walk.{Walked, each_reading, meet}
 use Rattle.reading.specs.Noted.{item_place}
-use Rattle.steps.specs.AtHand.{MarkedAs}
-use Rattle.steps.specs.Steps.{form_in, values_as, unknown_as, readings_as, step_in, walk_after}
+use Rattle.steps.specs.Steps.{values_as, unknown_as, readings_as, step_in, walk_after}
 use Rattle.walking.specs.Standing.{Standing, add}
-
--- Marks that a state of the request has.
-pub record Fit (s t : List ℕ) (marks : State) : Type 0 where
-  pub marked : MarkedAs (form_in t) s marks
 
 -- The action that is item i.
 unfoldable pub action_at : (s t : List ℕ) → ℕ → ℕ

@@ -3,5 +3,4 @@
 #![tactic(auto)]
 
 pub mod tally; // what the walk has counted, and how it stands
-pub mod asked; // what it asks
 pub mod walk; // the walk

@@ -92,11 +92,12 @@ module _ (s t : List ℕ) (here : AtHand Flags s t) (i : ℕ) (less : i < items_
     pub second_fits : Fits w64 (length s) → Fits w64 (start + 2)
     second_fits room = let there = count_there in let most = room.fits in record { fits = omega (arith, there, most) }
 
-    pub ending_starts : (x : ℕ) → x ≡ get_or s (start + 1) 0 → Ending s t i x (start + 2) (i + 1)
+    pub ending_starts : Ending s t i (get_or s (start + 1) 0 - 0) (start + 2) (i + 1)
     unfolding place_of bytes_in ItemWritten InsideLaid
-    ending_starts x counted =
+    ending_starts =
         let l = laid s t here i less in
-        rw (counted, starts) (by_item l.this l.after l.place l.written l.inside (ends_behind s t here i less))
+        let all : get_or s (start + 1) 0 - 0 ≡ get_or s (start + 1) 0 = omega arith in
+        rw (all, starts) (by_item l.this l.after l.place l.written l.inside (ends_behind s t here i less))
       where
         by_item : (this : Item ℕ) (after : Sequence ℕ) → get_or t (0 + i) 0 ≡ place_of this → ItemWritten Flags s this → InsideLaid Flags t (plan_in Flags s t) i after this
             → ((end : ℕ) → end ≡ get_or t (0 + i) 0 + bytes_in Flags this → ItemEnds s t i end)
@@ -115,34 +116,39 @@ module _ (s t : List ℕ) (here : AtHand Flags s t) (i : ℕ) (less : i < items_
           ends = λ end e. ends end (omega (arith, e));
         }
 
-module _ (s t : List ℕ) (i left p met : ℕ) (ending : Ending s t i left p met) where
-  pub ended : left ≤ 0 → ItemEnds s t i p
+-- So many of the branches are passed.
+module _ (s t : List ℕ) (i count passed p met : ℕ) (ending : Ending s t i (count - passed) p met) where
+  pub ended : count ≤ passed → ItemEnds s t i p
   unfolding branches_in bytes_under
   ended over = by_branch ending.branches ending.count ending.ends
     where
-      by_branch : (bs : Branches ℕ) → left ≡ branches_in bs → ((end : ℕ) → end ≡ p + bytes_under Flags bs → ItemEnds s t i end) → ItemEnds s t i p
-      by_branch none count ends = ends p (omega arith)
-      by_branch (branch c d bs) count ends = absurd (omega (arith, over, count))
+      by_branch : (bs : Branches ℕ) → count - passed ≡ branches_in bs → ((end : ℕ) → end ≡ p + bytes_under Flags bs → ItemEnds s t i end) → ItemEnds s t i p
+      by_branch none none_left ends = ends p (omega arith)
+      by_branch (branch c d bs) some_left ends = absurd (omega (arith, over, some_left))
 
-  module _ (more : 0 < left) where
+  module _ (more : passed < count) where
+    some : 0 < count - passed
+    some = omega (arith, more)
+
     pub branch_there : BranchHere Flags s p met
-    branch_there = branch_first Flags s t left p met more ending.here
+    branch_there = branch_first Flags s t (count - passed) p met some ending.here
 
-    pub ending_next : (q j : ℕ) → q ≡ place_after Flags s t p met → j ≡ item_after Flags s t p met → Ending s t i (left - 1) q j
+    pub ending_next : (q j : ℕ) → q ≡ place_after Flags s t p met → j ≡ item_after Flags s t p met → Ending s t i (count - (passed + 1)) q j
     unfolding branches_in bytes_under BranchesWritten BranchesLaid
     ending_next q j placed counted = by_branch ending.branches ending.count ending.written ending.laid ending.ends
       where
-        by_branch : (bs : Branches ℕ) → left ≡ branches_in bs → BranchesWritten Flags s p bs → BranchesLaid Flags t (plan_in Flags s t) met p ending.after bs
-            → ((end : ℕ) → end ≡ p + bytes_under Flags bs → ItemEnds s t i end) → Ending s t i (left - 1) q j
-        by_branch none count w l ends = absurd (omega (arith, more, count))
-        by_branch (branch c d bs) count w l ends =
+        by_branch : (bs : Branches ℕ) → count - passed ≡ branches_in bs → BranchesWritten Flags s p bs → BranchesLaid Flags t (plan_in Flags s t) met p ending.after bs
+            → ((end : ℕ) → end ≡ p + bytes_under Flags bs → ItemEnds s t i end) → Ending s t i (count - (passed + 1)) q j
+        by_branch none none_left w l ends = absurd (omega (arith, more, none_left))
+        by_branch (branch c d bs) some_left w l ends =
             let there : q ≡ p + (1 + length c) + (2 + bytes_of Flags d) = placed ∙ place_is Flags s t met p c d w.0 l.0.kept in
             let items : j ≡ met + items_of d = counted ∙ item_is Flags s t met p c d w.0 l.0.kept in
+            let less : count - passed - 1 ≡ count - (passed + 1) = omega arith in
             record {
               branches = bs;
               after = ending.after;
-              here = branches_next Flags s t left p met more ending.here q j placed counted;
-              count = omega (arith, count);
+              here = subst (λ (n : ℕ). BranchesHere Flags s t n q j) less (branches_next Flags s t (count - passed) p met some ending.here q j placed counted);
+              count = omega (arith, some_left);
               written = rw there w.2;
               laid = rw (there, items) l.1;
               ends = λ end e. ends end (omega (arith, e, there));

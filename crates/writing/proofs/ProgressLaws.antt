@@ -4,8 +4,8 @@ use Prim.Native.Nat.{ℕ, ◌+◌, ◌≤◌, ◌<◌}
 use native.Mathlib.Omega.{arith}
 use mathlib.Core.Path.{◌≡◌, refl, sym, ◌∙◌, ap, ap₂}
 use mathlib.Core.List.{List, [], ◌∷◌, ◌++◌, append_assoc, append-nil}
-use lib.ListN.{length, length-append, get_or, set, length-set}
-use lib.Seq.{sets, get_or-set_same, get_or-set_other}
+use lib.ListN.{length, length-append}
+use lib.Seq.{sets}
 use lib.Dec.{ltb}
 use borrow.Author.Tests.{ltb-true, ltb-false, lt-ltb, le-ltb}
 use Rattle.meaning.specs.declared.Layout.{Layout}
@@ -14,7 +14,8 @@ use Rattle.meaning.specs.Limits.{format}
 use Rattle.meaning.specs.Derivations.{Line}
 use Rattle.meaning.specs.Layouts.{line_written, lines_written}
 use Rattle.meaning.proofs.TestLaws.{by-test, pick_true, pick_false}
-use Rattle.writing.specs.Progress.{Standing, over, so_far, add, line_count, byte_count, standing, most_line, Underway}
+use Rattle.writing.specs.declared.lines.Progress.{Progress}
+use Rattle.writing.specs.Progress.{Standing, over, so_far, add, standing, most_line, Underway}
 use Rattle.steps.proofs.StoreLaws.{stores_behind}
 
 -- LINES one after another.
@@ -75,75 +76,60 @@ add_both (so_far n m room) a b =
     (λ f. within_first n m room a b (ltb-false _ _ f))
 
 -- THE PROGRESS. It stands over exactly where there are too many lines.
-module _ (progress room : List ℕ) where
-  pub stands_over : format.lines < line_count progress → standing progress room ≡ over
+module _ (progress : Progress) (room : List ℕ) where
+  pub stands_over : format.lines < progress.lines → standing progress room ≡ over
   unfolding standing
-  stands_over many = pick_true _ _ _ (lt-ltb format.lines (line_count progress) many)
+  stands_over many = pick_true _ _ _ (lt-ltb format.lines progress.lines many)
 
-  pub stands_so_far : line_count progress ≤ format.lines → standing progress room ≡ so_far (line_count progress) (byte_count progress) room
+  pub stands_so_far : progress.lines ≤ format.lines → standing progress room ≡ so_far progress.lines progress.end room
   unfolding standing
-  stands_so_far few = pick_false _ _ _ (le-ltb format.lines (line_count progress) few)
+  stands_so_far few = pick_false _ _ _ (le-ltb format.lines progress.lines few)
 
-  pub over_stands : standing progress room ≡ over → format.lines < line_count progress
+  pub over_stands : standing progress room ≡ over → format.lines < progress.lines
   over_stands is =
-      by-test (ltb format.lines (line_count progress))
+      by-test (ltb format.lines progress.lines)
       (λ t. ltb-true _ _ t)
       (λ f. absurd (never (sym (stands_so_far (ltb-false _ _ f)) ∙ is)))
     where
-      never : so_far (line_count progress) (byte_count progress) room ≡ over → ⊥
+      never : so_far progress.lines progress.end room ≡ over → ⊥
       never e = let z : ◌≡◌ {A = ℕ} 0 1 = cc in omega arith
 
   -- Nothing more is written then.
-  pub lines_over : format.lines < get_or progress 0 0 → (ls : List Line) → standing progress room ≡ add (standing progress room) ls
-  unfolding line_count
+  pub lines_over : format.lines < progress.lines → (ls : List Line) → standing progress room ≡ add (standing progress room) ls
   lines_over many ls = let is = stands_over many in is ∙ sym (add_none (standing progress room) ls is)
 
 -- A LINE behind those that are there.
-module _ (progress : List ℕ) (underway : Underway progress) (few : get_or progress 0 0 ≤ format.lines) where
-  pub progress_near : get_or progress 1 0 < 34393292800
-  unfolding line_count byte_count
+module _ (progress : Progress) (underway : Underway progress) (few : progress.lines ≤ format.lines) where
+  pub progress_near : progress.end < 34393292800
   progress_near = let short = underway.short in omega (arith, short, few)
 
   module _ (end : ℕ) where
-    lines_next : line_count (set (set progress 0 (get_or progress 0 0 + 1)) 1 end) ≡ get_or progress 0 0 + 1
-    unfolding line_count
-    lines_next =
-        let sized = underway.sized in
-        get_or-set_other (set progress 0 (get_or progress 0 0 + 1)) 1 0 end 0 (λ e. omega (arith, e)) ∙ get_or-set_same progress 0 (get_or progress 0 0 + 1) 0 (omega (arith, sized))
+    abbrev next : Progress
+    next = record { lines = progress.lines + 1; end = end }
 
-    bytes_next : byte_count (set (set progress 0 (get_or progress 0 0 + 1)) 1 end) ≡ end
-    unfolding byte_count
-    bytes_next =
-        let sized = underway.sized in let same = length-set progress 0 (get_or progress 0 0 + 1) in
-        get_or-set_same (set progress 0 (get_or progress 0 0 + 1)) 1 end 0 (omega (arith, sized, same))
-
-    pub line_goes_on : end ≤ get_or progress 1 0 + most_line → Underway (set (set progress 0 (get_or progress 0 0 + 1)) 1 end)
-    unfolding line_count byte_count
+    pub line_goes_on : end ≤ progress.end + most_line → Underway next
     line_goes_on near =
-        let first : List ℕ = set progress 0 (get_or progress 0 0 + 1) in
-        let lines = lines_next in let bytes = bytes_next in let short = underway.short in
+        let short = underway.short in
         record {
-          sized = length-set first 1 end ∙ length-set progress 0 (get_or progress 0 0 + 1) ∙ underway.sized;
-          few = omega (arith, lines, few);
-          short = omega (arith, lines, bytes, short, near);
+          few = omega (arith, few);
+          short = omega (arith, short, near);
         }
 
-    pub line_added : (room after : List ℕ) (l : Line) → after ≡ sets room (get_or progress 1 0) (line_written Plain l) → end ≡ get_or progress 1 0 + length (line_written Plain l)
-        → standing (set (set progress 0 (get_or progress 0 0 + 1)) 1 end) after ≡ add (standing progress room) (l ∷ [])
-    unfolding lines_written line_count byte_count
+    pub line_added : (room after : List ℕ) (l : Line) → after ≡ sets room progress.end (line_written Plain l) → end ≡ progress.end + length (line_written Plain l)
+        → standing next after ≡ add (standing progress room) (l ∷ [])
+    unfolding lines_written
     line_added room after l put ends =
-        let n = get_or progress 0 0 in
-        let m = get_or progress 1 0 in
-        let lines = lines_next in let bytes = bytes_next in
+        let n = progress.lines in
+        let m = progress.end in
         let same : line_written Plain l ≡ line_written Plain l ++ [] = sym (append-nil (line_written Plain l)) in
         by-test (ltb format.lines (n + 1))
         (λ t.
         let many = ltb-true _ _ t in
-        stands_over (set (set progress 0 (n + 1)) 1 end) after (omega (arith, many, lines)) ∙ sym (add_above n m room (l ∷ []) many) ∙ ap (λ (u : Standing). add u (l ∷ [])) (sym (stands_so_far progress room few)))
+        stands_over next after many ∙ sym (add_above n m room (l ∷ []) many) ∙ ap (λ (u : Standing). add u (l ∷ [])) (sym (stands_so_far progress room few)))
         (λ f.
         let small = ltb-false _ _ f in
-        stands_so_far (set (set progress 0 (n + 1)) 1 end) after (omega (arith, small, lines))
-        ∙ ap₂ (λ (k j : ℕ). so_far k j after) lines (bytes ∙ ends ∙ ap (λ (xs : List ℕ). m + length xs) same)
+        stands_so_far next after small
+        ∙ ap (λ (j : ℕ). so_far (n + 1) j after) (ends ∙ ap (λ (xs : List ℕ). m + length xs) same)
         ∙ ap (so_far (n + 1) (m + length (line_written Plain l ++ []))) (put ∙ ap (sets room m) same)
         ∙ sym (add_within n m room (l ∷ []) small)
         ∙ ap (λ (u : Standing). add u (l ∷ [])) (sym (stands_so_far progress room few)))

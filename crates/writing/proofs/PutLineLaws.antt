@@ -41,10 +41,10 @@ module _ (q ruled rule : ℕ) (xs : List ℕ) (at : ruled ≡ q + length xs) whe
   pub uncited_ends : ruled + 2 ≡ q + length (xs ++ (rule ∷ 0 ∷ []))
   uncited_ends = ends_behind q ruled xs (rule ∷ 0 ∷ []) at (ruled + 2) refl
 
-  pub uncited_put : (room known mid after : List ℕ) → known ≡ sets room q xs → mid ≡ set known ruled rule → after ≡ set mid (ruled + 1) 0 → after ≡ sets room q (xs ++ (rule ∷ 0 ∷ []))
-  uncited_put room known mid after first second third =
+  pub uncited_put : (byte : ℕ) → byte ≡ rule → (room known mid after : List ℕ) → known ≡ sets room q xs → mid ≡ set known ruled byte → after ≡ set mid (ruled + 1) 0 → after ≡ sets room q (xs ++ (rule ∷ 0 ∷ []))
+  uncited_put byte is room known mid after first second third =
       let on : ruled + 1 ≡ suc ruled = omega arith in
-      put_behind q ruled xs (rule ∷ 0 ∷ []) at room known after first (third ∙ ap₂ (λ (zs : List ℕ) (j : ℕ). set zs j 0) second on)
+      put_behind q ruled xs (rule ∷ 0 ∷ []) at room known after first (third ∙ ap₂ (λ (zs : List ℕ) (j : ℕ). set zs j 0) (second ∙ ap (set known ruled) is) on)
 
 -- THE GOALS, which stand in the request from their count on.
 module _ (s t : List ℕ) (here : AtHand Flags s t) (goals : ℕ) (slot : goals ≡ get_or t goals_slot 0) where
@@ -148,13 +148,13 @@ module _ (s : State) (room first : List ℕ) (q plan : ℕ) (known : first ≡ s
   pub cited_line : (c : Sequence ℕ) (Y : Conclusion) (rule : ℕ) (cites : List ℕ) (second third fourth after : List ℕ) (concluded ruled end : ℕ)
       → second ≡ sets first plan (plan_written c) → concluded ≡ plan + length (plan_written c)
       → third ≡ sets second concluded (conclusion_written Y) → ruled ≡ concluded + length (conclusion_written Y)
-      → fourth ≡ set third ruled rule
+      → (byte : ℕ) → byte ≡ rule → fourth ≡ set third ruled byte
       → after ≡ sets fourth (ruled + 1) (length cites ∷ numbers_written cites) → end ≡ ruled + 1 + (1 + length (numbers_written cites))
       → LinePut room q s c Y rule cites after end
-  cited_line c Y rule cites second third fourth after concluded ruled end two at-two three at-three four five ends =
+  cited_line c Y rule cites second third fourth after concluded ruled end two at-two three at-three byte is four five ends =
       let last : List ℕ = rule ∷ length cites ∷ numbers_written cites in
       let on : ruled + 1 ≡ suc ruled = omega arith in
-      let tail : after ≡ sets third ruled last = five ∙ ap₂ (λ (zs : List ℕ) (j : ℕ). sets zs j (length cites ∷ numbers_written cites)) four on in
+      let tail : after ≡ sets third ruled last = five ∙ ap₂ (λ (zs : List ℕ) (j : ℕ). sets zs j (length cites ∷ numbers_written cites)) (four ∙ ap (set third ruled) is) on in
       let far : end ≡ ruled + length last = omega (arith, ends) in
       line_from c Y rule cites after end
       (put_behind plan concluded (plan_written c) (conclusion_written Y ++ last) at-two first second after two

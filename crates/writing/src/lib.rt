@@ -2,7 +2,7 @@
 
 #![tactic(auto)]
 
-pub mod rule_bytes; // the rules
 pub mod room; // bytes, numbers, lists and parts of an input
 pub mod rests; // what is left of a plan
+pub mod cites; // the lines that a line cites
 pub mod lines; // a line behind those that are there

@@ -6,8 +6,6 @@ ghost use Rattle.meaning.specs.Derivations.{literals_of};
 ghost use Rattle.meaning.specs.Layouts.{list_written, number_written};
 ghost use Rattle.steps.specs.AtHand.{Marked};
 
-use parsing::bytes::wide;
-use parsing::limits;
 use reading::marks::Marks;
 
 pub fn put(room: &mut [u8], q: usize, x: u8)
@@ -24,28 +22,20 @@ pub fn put_number(room: &mut [u8], q: usize, k: usize)
     requires q_bound { q < 281474976710656 }
     ensures { room.new ≡ sets room.old q (number_written k) }
 {
-    let low = q + 1;
     put(room, q, (k / 256) as u8);
-    put(room, low, (k % 256) as u8);
+    put(room, q + 1, (k % 256) as u8);
 }
 
-// The bytes of s from p up to e.
+// The bytes of s from p up to e, as many of them as fit behind q.
 pub fn put_part(s: &[u8], p: usize, e: usize, room: &mut [u8], q: usize)
     requires p_le_e { p ≤ e }
     requires e_in_bounds { e ≤ length s.now }
     requires q_bound { q < 281474976710656 }
     ensures { room.new ≡ sets room.old q (take (e - p) (drop p s.now)) }
 {
-    let mut i = p;
-    let mut at = q;
-    while i < e {
-        if room.len() <= at {
-            return;
-        }
-        room[at] = s[i];
-        i += 1;
-        at += 1;
-    }
+    let start = q.min(room.len());
+    let fitting = (e - p).min(room.len() - start);
+    room[start..start + fitting].copy_from_slice(&s[p..p + fitting]);
 }
 
 // What a state knows, as a list. It gives the place after it.
@@ -58,18 +48,13 @@ pub fn put_known(marks: &Marks, room: &mut [u8], q: usize) -> usize
 {
     let mut p = q + 1;
     let mut count: u8 = 0;
-    let mut f = 0;
-    while f < limits::FLUENTS {
-        let mark = wide(marks[f]);
-        let twice = 2 * f;
-        f += 1;
-        if mark == 0 {
-            continue;
+    for (f, mark) in marks.iter().enumerate() {
+        if *mark != 0 {
+            let literal = 2 * f + usize::from(*mark) - 1;
+            put(room, p, literal as u8);
+            p += 1;
+            count += 1;
         }
-        let l = twice + mark - 1;
-        put(room, p, l as u8);
-        p += 1;
-        count += 1;
     }
     put(room, q, count);
     p

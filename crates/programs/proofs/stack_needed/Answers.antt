@@ -9,6 +9,6 @@ pub returns-then-length-le-SHORT : goal.returns-then-length-le-SHORT
 unfolding pick
 returns-then-length-le-SHORT c = ap (λ (short : Bool). pick short (λ _. 6291456) (λ _. 16777216)) (sym (le-leb c.args.length 1024 c.if-length-le-SHORT.true))
 
-pub returns : goal.returns
+pub returns-else-length-le-SHORT : goal.returns-else-length-le-SHORT
 unfolding pick
-returns c = ap (λ (short : Bool). pick short (λ _. 6291456) (λ _. 16777216)) (sym (lt-leb c.args.length 1024 c.if-length-le-SHORT.false))
+returns-else-length-le-SHORT c = ap (λ (short : Bool). pick short (λ _. 6291456) (λ _. 16777216)) (sym (lt-leb c.args.length 1024 c.if-length-le-SHORT.false))

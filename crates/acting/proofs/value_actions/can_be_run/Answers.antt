@@ -9,14 +9,14 @@ loop-k-init c = search running_starts
 pub line_place-p-requires-clause-k_lt_line_numbers : goal.line_place-p-requires-clause-k_lt_line_numbers
 line_place-p-requires-clause-k_lt_line_numbers c = search line_few
 
-pub overflow_add-body : goal.overflow_add-body
-overflow_add-body c = search run_body_fits
+pub overflow_add-p : goal.overflow_add-p
+overflow_add-p c = search run_body_fits
 
-pub each_known-known-requires-clause-values_here : goal.each_known-known-requires-clause-values_here
-each_known-known-requires-clause-values_here c = search run_body
+pub each_known-requires-clause-values_here : goal.each_known-requires-clause-values_here
+each_known-requires-clause-values_here c = search run_body
 
-pub returns-then-known : goal.returns-then-known
-returns-then-known c = search run_met
+pub returns-then-each_known : goal.returns-then-each_known
+returns-then-each_known c = search run_met
 
 pub next_line-k-requires-clause-k_lt_line_numbers : goal.next_line-k-requires-clause-k_lt_line_numbers
 next_line-k-requires-clause-k_lt_line_numbers c = search line_few

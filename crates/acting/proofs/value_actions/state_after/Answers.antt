@@ -13,17 +13,17 @@ line_place-p-requires-clause-k_lt_line_numbers c = search line_few
 pub next_line-k-requires-clause-k_lt_line_numbers : goal.next_line-k-requires-clause-k_lt_line_numbers
 next_line-k-requires-clause-k_lt_line_numbers c = search line_few
 
-pub overflow_add-one : goal.overflow_add-one
-overflow_add-one c = search effect_one_fits
+pub overflow_add-p : goal.overflow_add-p
+overflow_add-p c = search effect_one_fits
 
-pub overflow_add-second : goal.overflow_add-second
-overflow_add-second c = search effect_second_fits
+pub overflow_add-p-in-loop-k : goal.overflow_add-p-in-loop-k
+overflow_add-p-in-loop-k c = search effect_second_fits
 
-pub bounds-s-one : goal.bounds-s-one
-bounds-s-one c = search effect_one_there
+pub bounds-s-p : goal.bounds-s-p
+bounds-s-p c = search effect_one_there
 
-pub bounds-s-second : goal.bounds-s-second
-bounds-s-second c = search effect_second_there
+pub bounds-s-p-in-loop-k : goal.bounds-s-p-in-loop-k
+bounds-s-p-in-loop-k c = search effect_second_there
 
 pub bounds-next-f : goal.bounds-next-f
 bounds-next-f c = search effect_fluent
@@ -34,29 +34,32 @@ loop-k-smaller-then-next-f c = search line_less
 pub loop-k-preserved-then-next-f : goal.loop-k-preserved-then-next-f
 loop-k-preserved-then-next-f c = search sweep_known
 
-pub overflow_add-body : goal.overflow_add-body
-overflow_add-body c = search effect_body_fits
+pub overflow_add-p-then-next-f-eq-UNKNOWN_MARK : goal.overflow_add-p-then-next-f-eq-UNKNOWN_MARK
+overflow_add-p-then-next-f-eq-UNKNOWN_MARK c = search effect_body_fits
+
+pub overflow_add-p-else-next-f-eq-UNKNOWN_MARK : goal.overflow_add-p-else-next-f-eq-UNKNOWN_MARK
+overflow_add-p-else-next-f-eq-UNKNOWN_MARK c = search effect_body_fits
 
 pub bounds-next-f-in-loop-k : goal.bounds-next-f-in-loop-k
 bounds-next-f-in-loop-k c = search effect_fluent
 
-pub each_known-known-requires-clause-values_here : goal.each_known-known-requires-clause-values_here
-each_known-known-requires-clause-values_here c = search effect_body
+pub each_known-requires-clause-values_here : goal.each_known-requires-clause-values_here
+each_known-requires-clause-values_here c = search effect_body
 
-pub bounds-next-f-then-known : goal.bounds-next-f-then-known
-bounds-next-f-then-known c = search effect_fluent
+pub bounds-next-f-then-each_known : goal.bounds-next-f-then-each_known
+bounds-next-f-then-each_known c = search effect_fluent
 
-pub loop-k-smaller-then-known : goal.loop-k-smaller-then-known
-loop-k-smaller-then-known c = search line_less
+pub loop-k-smaller-then-each_known : goal.loop-k-smaller-then-each_known
+loop-k-smaller-then-each_known c = search line_less
 
-pub loop-k-preserved-then-known : goal.loop-k-preserved-then-known
-loop-k-preserved-then-known c = search sweep_told
+pub loop-k-preserved-then-each_known : goal.loop-k-preserved-then-each_known
+loop-k-preserved-then-each_known c = search sweep_told
 
-pub loop-k-smaller-else-known : goal.loop-k-smaller-else-known
-loop-k-smaller-else-known c = search line_less
+pub loop-k-smaller-else-each_known : goal.loop-k-smaller-else-each_known
+loop-k-smaller-else-each_known c = search line_less
 
-pub loop-k-preserved-else-known : goal.loop-k-preserved-else-known
-loop-k-preserved-else-known c = search sweep_unknown
+pub loop-k-preserved-else-each_known : goal.loop-k-preserved-else-each_known
+loop-k-preserved-else-each_known c = search sweep_unknown
 
 pub look_at-requires-clause-values_here : goal.look_at-requires-clause-values_here
 look_at-requires-clause-values_here c = search effect_body

@@ -4,11 +4,11 @@ use Rattle.checking.proofs.CheckLaws.{settled_first, settled_second, settled_lea
 use borrow.Author.Rules.{rules}
 use Rattle.checking.proofs.check.check_derivation.Goals as goal
 
-pub bounds-s-0 : goal.bounds-s-0
-bounds-s-0 c = search first_there
+pub bounds-r-0 : goal.bounds-r-0
+bounds-r-0 c = search first_there
 
-pub bounds-s-1 : goal.bounds-s-1
-bounds-s-1 c = search second_there
+pub bounds-r-1 : goal.bounds-r-1
+bounds-r-1 c = search second_there
 
 pub settle_derivation-requires-clause-n_le_fluents : goal.settle_derivation-requires-clause-n_le_fluents
 settle_derivation-requires-clause-n_le_fluents c = search fluents_few
@@ -17,26 +17,26 @@ pub settle_derivation-requires-clause-m_le_actions : goal.settle_derivation-requ
 settle_derivation-requires-clause-m_le_actions c = search actions_few
 
 pub bounds-d-0 : goal.bounds-d-0
-bounds-d-0 c = search settled_first
+bounds-d-0 c = search (rules, settled_first)
 
 pub bounds-d-1 : goal.bounds-d-1
-bounds-d-1 c = search settled_second
+bounds-d-1 c = search (rules, settled_second)
 
 pub check_lines-requires : goal.check_lines-requires
-check_lines-requires c = let pre = c.requires in let few = fluents_few _ _ pre _ c.wide-n.ensures in let less = actions_few _ _ pre _ c.wide-m.ensures in record { at_hand = search rules; all_stand = settled_stand _ _ _ _ _ _ _ c.settle_derivation.ensures c.sized.ensures _ c.in-To.is _ c.two-count.ensures c.shared_slice_known-2-1.given few less }
+check_lines-requires c = let pre = c.args.r.now.at_hand in let few = fluents_few _ _ pre _ c.wide-n.ensures in let less = actions_few _ _ pre _ c.wide-m.ensures in settled_stand _ _ _ _ _ _ _ c.settle_derivation.ensures c.sized.ensures _ c.in_ok-settle_derivation.was _ c.two-count.ensures c.shared_slice_known-2-1.given few less
 
 pub check_end-requires : goal.check_end-requires
-check_end-requires c = let pre = c.requires in let few = fluents_few _ _ pre _ c.wide-n.ensures in let less = actions_few _ _ pre _ c.wide-m.ensures in let read = c.settle_derivation.ensures in let room = c.sized.ensures in let value = c.in-To.is in let count = c.two-count.ensures in record { at_hand = search rules; some_derivation = settled_some _ _ _ _ _ _ _ read room _ value _ count c.shared_slice_known-2-1.given few less; le_lines = settled_least _ _ _ _ _ _ _ read room _ value _ count }
+check_end-requires c = let pre = c.args.r.now.at_hand in let few = fluents_few _ _ pre _ c.wide-n.ensures in let less = actions_few _ _ pre _ c.wide-m.ensures in let read = c.settle_derivation.ensures in let room = c.sized.ensures in let value = c.in_ok-settle_derivation.was in let count = c.two-count.ensures in record { some_derivation = settled_some _ _ _ _ _ _ _ read room _ value _ count c.shared_slice_known-2-1.given few less; le_lines = settled_least _ _ _ _ _ _ _ read room _ value _ count }
 
-pub returns-in-To-check_lines : goal.returns-in-To-check_lines
-returns-in-To-check_lines c = let pre = c.requires in
+pub returns : goal.returns
+returns c = let pre = c.args.r.now.at_hand in
     let n = c.wide-n.ensures in
     let m = c.wide-m.ensures in
     let bytes = c.shared_slice_known-2-1.given in
-    lines_checked _ _ _ _ _ _ _ c.settle_derivation.ensures _ _ pre n m c.sized.ensures _ c.in-To.is _ c.check_lines.ensures _ c.in-To-check_lines.is _ c.two-count.ensures bytes (fluents_few _ _ pre _ n) (actions_few _ _ pre _ m) _ c.check_end.ensures
+    lines_checked _ _ _ _ _ _ _ c.settle_derivation.ensures _ _ pre n m c.sized.ensures _ c.in_ok-settle_derivation.was _ c.check_lines.ensures _ c.in_ok-check_lines.was _ c.two-count.ensures bytes (fluents_few _ _ pre _ n) (actions_few _ _ pre _ m) _ c.check_end.ensures
 
-pub returns-in-Fault-check_lines : goal.returns-in-Fault-check_lines
-returns-in-Fault-check_lines c = search lines_fault
+pub returns-in_err-check_lines : goal.returns-in_err-check_lines
+returns-in_err-check_lines c = search (rules, lines_fault)
 
-pub returns-in-Fault : goal.returns-in-Fault
-returns-in-Fault c = search settled_fault
+pub returns-in_err-settle_derivation : goal.returns-in_err-settle_derivation
+returns-in_err-settle_derivation c = search (rules, settled_fault)

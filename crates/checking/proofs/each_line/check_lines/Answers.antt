@@ -5,14 +5,14 @@ use Rattle.checking.proofs.each_line.check_lines.Goals as goal
 pub loop-i-init : goal.loop-i-init
 loop-i-init c = search checking_start
 
-pub line_refused-number-requires-clause-numbered : goal.line_refused-number-requires-clause-numbered
-line_refused-number-requires-clause-numbered c = search line_numbered
+pub line_refused-requires : goal.line_refused-requires
+line_refused-requires c = search line_numbered
 
-pub place_of-p-requires : goal.place_of-p-requires
-place_of-p-requires c = search index_few
+pub place_of-requires : goal.place_of-requires
+place_of-requires c = search index_few
 
-pub returns-then-number-gt0 : goal.returns-then-number-gt0
-returns-then-number-gt0 c = search line_stops
+pub returns-in-Some : goal.returns-in-Some
+returns-in-Some c = search line_stops
 
 pub loop-i-preserved : goal.loop-i-preserved
 loop-i-preserved c = search checking_next

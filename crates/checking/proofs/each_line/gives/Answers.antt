@@ -1,101 +1,100 @@
 -- The lines that are cited stand where their slots say, and each rule says what it gives of the lines that stand there.
-use Rattle.checking.proofs.EachLineLaws.{few_fluents, few_actions, lines_some, own_some, own_read, cites_fit, cites_fit_2, cites_fit_3, cites_fit_4, by_empty, by_action, by_look, cited_below, by_sensing, second_high, second_low, other_below, other_some, first_high, first_low, one_below, one_some, by_branching, by_consequence, by_literal, by_composition}
+use borrow.Author.Rules.{rules}
+use Rattle.checking.proofs.EachLineLaws.{own_some, own_read, cited_below, one_there, one_below, one_some, first_there, first_below, first_some, second_there, second_below, second_some, by_empty, by_action, by_sensing, by_branching, by_composition, by_consequence, by_look, by_literal}
 use Rattle.checking.proofs.each_line.gives.Goals as goal
 
 pub rule_1-requires : goal.rule_1-requires
 rule_1-requires c = search own_some
 
-pub returns-then-rule-eq-EMPTY_RULE : goal.returns-then-rule-eq-EMPTY_RULE
-returns-then-rule-eq-EMPTY_RULE c = search by_empty
-
-pub rule_2-requires-clause-some_line : goal.rule_2-requires-clause-some_line
-rule_2-requires-clause-some_line c = search own_some
-
-pub returns-then-rule-eq-ACTION_RULE : goal.returns-then-rule-eq-ACTION_RULE
-returns-then-rule-eq-ACTION_RULE c = search by_action
+pub rule_2-requires : goal.rule_2-requires
+rule_2-requires c = search own_some
 
 pub rule_3-requires-clause-some_line : goal.rule_3-requires-clause-some_line
 rule_3-requires-clause-some_line c = search own_some
 
-pub rule_3-requires-clause-some_lines : goal.rule_3-requires-clause-some_lines
-rule_3-requires-clause-some_lines c = search lines_some
-
-pub rule_3-requires-clause-i_lt_lines : goal.rule_3-requires-clause-i_lt_lines
-rule_3-requires-clause-i_lt_lines c = search cited_below
-
-pub rule_3-requires-clause-l_value : goal.rule_3-requires-clause-l_value
-rule_3-requires-clause-l_value c = search cited_below
-
 pub rule_3-requires-clause-cited_below : goal.rule_3-requires-clause-cited_below
 rule_3-requires-clause-cited_below c = search cited_below
 
-pub returns-then-rule-eq-SENSING_RULE : goal.returns-then-rule-eq-SENSING_RULE
-returns-then-rule-eq-SENSING_RULE c = search by_sensing
+pub cited_of-cited-requires-clause-number_there : goal.cited_of-cited-requires-clause-number_there
+cited_of-cited-requires-clause-number_there c = one_there _ _ _ _ _ _ _ c.requires.numbered _ c.requires.l_value c.requires.cites_earlier _ c.requires.rule_value (search rules)
 
-pub rule_7-requires-clause-some_line : goal.rule_7-requires-clause-some_line
-rule_7-requires-clause-some_line c = search own_some
+pub cited_of-cited-requires-clause-number_below : goal.cited_of-cited-requires-clause-number_below
+cited_of-cited-requires-clause-number_below c = one_below _ _ _ _ _ _ _ c.requires.numbered _ c.requires.l_value c.requires.cites_earlier _ c.requires.rule_value (search rules)
 
-pub returns-then-rule-eq-LOOK_RULE : goal.returns-then-rule-eq-LOOK_RULE
-returns-then-rule-eq-LOOK_RULE c = search by_look
+pub rule_4-requires-clause-some_line : goal.rule_4-requires-clause-some_line
+rule_4-requires-clause-some_line c = one_some _ _ _ _ _ _ _ c.requires.numbered _ c.requires.l_value c.requires.cites_earlier _ c.requires.rule_value (search rules) _ c.cited_of-cited.ensures
 
-pub overflow_add-high : goal.overflow_add-high
-overflow_add-high c = search cites_fit
+pub rule_4-requires-clause-some_read : goal.rule_4-requires-clause-some_read
+rule_4-requires-clause-some_read c = search own_read
 
-pub overflow_add-low : goal.overflow_add-low
-overflow_add-low c = search cites_fit_2
+pub cited_of-first-requires-clause-number_there : goal.cited_of-first-requires-clause-number_there
+cited_of-first-requires-clause-number_there c = search first_there
 
-pub bounds-d-high : goal.bounds-d-high
-bounds-d-high c = search first_high
+pub cited_of-first-requires-clause-number_below : goal.cited_of-first-requires-clause-number_below
+cited_of-first-requires-clause-number_below c = search first_below
 
-pub bounds-d-low : goal.bounds-d-low
-bounds-d-low c = search first_low
+pub cited_of-second-requires-clause-number_there : goal.cited_of-second-requires-clause-number_there
+cited_of-second-requires-clause-number_there c = search second_there
 
-pub spot_of-cited-requires-clause-some_lines : goal.spot_of-cited-requires-clause-some_lines
-spot_of-cited-requires-clause-some_lines c = search lines_some
+pub cited_of-second-requires-clause-number_below : goal.cited_of-second-requires-clause-number_below
+cited_of-second-requires-clause-number_below c = search second_below
 
-pub spot_of-cited-requires-clause-k_lt_lines : goal.spot_of-cited-requires-clause-k_lt_lines
-spot_of-cited-requires-clause-k_lt_lines c = search one_below
+pub rule_5-requires-clause-some_line : goal.rule_5-requires-clause-some_line
+rule_5-requires-clause-some_line c = search first_some
 
-pub rule_4-requires : goal.rule_4-requires
-rule_4-requires c = let pre = c.requires in let citing = pre.cites_earlier in record { n_le_fluents = search few_fluents; m_le_actions = search few_actions; some_line = one_some _ _ _ _ _ _ _ pre.numbered _ pre.l_value citing _ pre.rule_value c.if-rule-eq-EMPTY_RULE.false c.if-rule-eq-ACTION_RULE.false c.if-rule-eq-SENSING_RULE.false c.if-rule-eq-LOOK_RULE.false _ c.two-one.ensures _ c.spot_of-cited.ensures; some_read = search own_read }
+pub rule_5-requires-clause-some_line_2 : goal.rule_5-requires-clause-some_line_2
+rule_5-requires-clause-some_line_2 c = search second_some
 
-pub returns-then-rule-eq-BRANCHING_RULE : goal.returns-then-rule-eq-BRANCHING_RULE
-returns-then-rule-eq-BRANCHING_RULE c = search by_branching
+pub rule_5-requires-clause-some_line_3 : goal.rule_5-requires-clause-some_line_3
+rule_5-requires-clause-some_line_3 c = search own_some
 
-pub overflow_add-next : goal.overflow_add-next
-overflow_add-next c = search cites_fit_3
+pub cited_of-cited-requires-in-Consequence-clause-number_there : goal.cited_of-cited-requires-in-Consequence-clause-number_there
+cited_of-cited-requires-in-Consequence-clause-number_there c = one_there _ _ _ _ _ _ _ c.requires.numbered _ c.requires.l_value c.requires.cites_earlier _ c.requires.rule_value (search rules)
 
-pub overflow_add-last : goal.overflow_add-last
-overflow_add-last c = search cites_fit_4
+pub cited_of-cited-requires-in-Consequence-clause-number_below : goal.cited_of-cited-requires-in-Consequence-clause-number_below
+cited_of-cited-requires-in-Consequence-clause-number_below c = one_below _ _ _ _ _ _ _ c.requires.numbered _ c.requires.l_value c.requires.cites_earlier _ c.requires.rule_value (search rules)
 
-pub bounds-d-next : goal.bounds-d-next
-bounds-d-next c = search second_high
+pub rule_6-requires-clause-some_line : goal.rule_6-requires-clause-some_line
+rule_6-requires-clause-some_line c = one_some _ _ _ _ _ _ _ c.requires.numbered _ c.requires.l_value c.requires.cites_earlier _ c.requires.rule_value (search rules) _ c.cited_of-cited-in-Consequence.ensures
 
-pub bounds-d-last : goal.bounds-d-last
-bounds-d-last c = search second_low
+pub rule_6-requires-clause-some_line_2 : goal.rule_6-requires-clause-some_line_2
+rule_6-requires-clause-some_line_2 c = search own_some
 
-pub spot_of-second-requires-clause-some_lines : goal.spot_of-second-requires-clause-some_lines
-spot_of-second-requires-clause-some_lines c = search lines_some
+pub rule_7-requires : goal.rule_7-requires
+rule_7-requires c = search own_some
 
-pub spot_of-second-requires-clause-k_lt_lines : goal.spot_of-second-requires-clause-k_lt_lines
-spot_of-second-requires-clause-k_lt_lines c = search other_below
+pub cited_of-cited-requires-in_default-clause-number_there : goal.cited_of-cited-requires-in_default-clause-number_there
+cited_of-cited-requires-in_default-clause-number_there c = one_there _ _ _ _ _ _ _ c.requires.numbered _ c.requires.l_value c.requires.cites_earlier _ c.requires.rule_value (search rules)
 
-pub rule_5-requires : goal.rule_5-requires
-rule_5-requires c = let pre = c.requires in let citing = pre.cites_earlier in let cited = one_some _ _ _ _ _ _ _ pre.numbered _ pre.l_value citing _ pre.rule_value c.if-rule-eq-EMPTY_RULE.false c.if-rule-eq-ACTION_RULE.false c.if-rule-eq-SENSING_RULE.false c.if-rule-eq-LOOK_RULE.false _ c.two-one.ensures _ c.spot_of-cited.ensures in let cited-too = other_some _ _ _ _ _ _ _ pre.numbered _ pre.l_value citing _ pre.rule_value c.if-rule-eq-COMPOSITION_RULE.true _ c.two-other.ensures _ c.spot_of-second.ensures in record { some_line = cited; some_line_2 = cited-too; some_line_3 = search own_some }
+pub cited_of-cited-requires-in_default-clause-number_below : goal.cited_of-cited-requires-in_default-clause-number_below
+cited_of-cited-requires-in_default-clause-number_below c = one_below _ _ _ _ _ _ _ c.requires.numbered _ c.requires.l_value c.requires.cites_earlier _ c.requires.rule_value (search rules)
 
-pub returns-then-rule-eq-COMPOSITION_RULE : goal.returns-then-rule-eq-COMPOSITION_RULE
-returns-then-rule-eq-COMPOSITION_RULE c = let pre = c.requires in
-    let citing = pre.cites_earlier in
-    by_composition _ _ _ _ _ _ _ pre.numbered _ pre.l_value citing _ pre.rule_value c.if-rule-eq-EMPTY_RULE.false c.if-rule-eq-ACTION_RULE.false c.if-rule-eq-SENSING_RULE.false c.if-rule-eq-LOOK_RULE.false _ c.two-one.ensures _ c.spot_of-cited.ensures c.if-rule-eq-COMPOSITION_RULE.true _ c.two-other.ensures _ c.spot_of-second.ensures _ _ c.rule_5.ensures
+pub rule_8-requires-clause-some_line : goal.rule_8-requires-clause-some_line
+rule_8-requires-clause-some_line c = one_some _ _ _ _ _ _ _ c.requires.numbered _ c.requires.l_value c.requires.cites_earlier _ c.requires.rule_value (search rules) _ c.cited_of-cited-in_default.ensures
 
-pub rule_6-requires : goal.rule_6-requires
-rule_6-requires c = let pre = c.requires in let citing = pre.cites_earlier in record { some_line = one_some _ _ _ _ _ _ _ pre.numbered _ pre.l_value citing _ pre.rule_value c.if-rule-eq-EMPTY_RULE.false c.if-rule-eq-ACTION_RULE.false c.if-rule-eq-SENSING_RULE.false c.if-rule-eq-LOOK_RULE.false _ c.two-one.ensures _ c.spot_of-cited.ensures; some_line_2 = search own_some }
+pub rule_8-requires-clause-some_line_2 : goal.rule_8-requires-clause-some_line_2
+rule_8-requires-clause-some_line_2 c = search own_some
 
-pub returns-then-rule-eq-CONSEQUENCE_RULE : goal.returns-then-rule-eq-CONSEQUENCE_RULE
-returns-then-rule-eq-CONSEQUENCE_RULE c = search by_consequence
+pub returns-in-Empty : goal.returns-in-Empty
+returns-in-Empty c = search by_empty
 
-pub rule_8-requires : goal.rule_8-requires
-rule_8-requires c = let pre = c.requires in let citing = pre.cites_earlier in record { some_line = one_some _ _ _ _ _ _ _ pre.numbered _ pre.l_value citing _ pre.rule_value c.if-rule-eq-EMPTY_RULE.false c.if-rule-eq-ACTION_RULE.false c.if-rule-eq-SENSING_RULE.false c.if-rule-eq-LOOK_RULE.false _ c.two-one.ensures _ c.spot_of-cited.ensures; some_line_2 = search own_some }
+pub returns-in-Action : goal.returns-in-Action
+returns-in-Action c = search by_action
 
-pub returns : goal.returns
-returns c = search by_literal
+pub returns-in-Sensing : goal.returns-in-Sensing
+returns-in-Sensing c = search by_sensing
+
+pub returns-in-Branching : goal.returns-in-Branching
+returns-in-Branching c = search (rules, by_branching)
+
+pub returns-in-Composition : goal.returns-in-Composition
+returns-in-Composition c = search by_composition
+
+pub returns-in-Consequence : goal.returns-in-Consequence
+returns-in-Consequence c = search (rules, by_consequence)
+
+pub returns-in-Look : goal.returns-in-Look
+returns-in-Look c = search by_look
+
+pub returns-in_default : goal.returns-in_default
+returns-in_default c = search (rules, by_literal)

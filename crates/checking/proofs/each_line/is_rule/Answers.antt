@@ -1,18 +1,18 @@
--- The bytes are told apart by their order, in each layout by itself.
-use Rattle.checking.proofs.EachLineLaws.{no_rule, plain_rule, early_rule, between_rules, late_rule}
+-- Each rule by its own number, in each layout by itself.
+use borrow.Author.Rules.{rules}
+use Rattle.meaning.specs.Tests.{both, either}
+use Rattle.meaning.specs.Derivations.{a_rule}
+use Rattle.checking.proofs.EachLineLaws.{closing_rule}
 use Rattle.checking.proofs.each_line.is_rule.Goals as goal
 
-pub returns-then-rule-lt-EMPTY_RULE : goal.returns-then-rule-lt-EMPTY_RULE
-returns-then-rule-lt-EMPTY_RULE c = search no_rule
+pub returns-in-Empty : goal.returns-in-Empty
+unfolding a_rule both either
+returns-in-Empty c = search rules
 
-pub returns-then-rule-le-LITERAL_RULE : goal.returns-then-rule-le-LITERAL_RULE
-returns-then-rule-le-LITERAL_RULE c = search early_rule
+pub returns-in_default : goal.returns-in_default
+unfolding a_rule both either
+returns-in_default c = search rules
 
-pub returns-then-rule-lt-SENSING_WHETHER_RULE : goal.returns-then-rule-lt-SENSING_WHETHER_RULE
-returns-then-rule-lt-SENSING_WHETHER_RULE c = search between_rules
-
-pub returns-in-Plain : goal.returns-in-Plain
-returns-in-Plain c = search plain_rule
-
-pub returns-else-rule-lt-SENSING_WHETHER_RULE : goal.returns-else-rule-lt-SENSING_WHETHER_RULE
-returns-else-rule-lt-SENSING_WHETHER_RULE c = search late_rule
+pub returns-in-Closing : goal.returns-in-Closing
+unfolding a_rule both either
+returns-in-Closing c = search closing_rule

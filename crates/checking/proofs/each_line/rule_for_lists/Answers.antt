@@ -1,15 +1,21 @@
--- Rules 10, 11 and 12 are told one by one, and every other rule is its own.
-use Rattle.checking.proofs.EachLineLaws.{lists_sensing, lists_composition, lists_branching, lists_same}
+-- Each of the three rules has its own, and every other rule is its own.
+use borrow.Author.Rules.{rules}
+use Rattle.meaning.specs.Tests.{pick}
+use Rattle.meaning.specs.Derivations.{for_lists}
 use Rattle.checking.proofs.each_line.rule_for_lists.Goals as goal
 
-pub returns-then-rule-eq-SENSING_WHETHER_RULE : goal.returns-then-rule-eq-SENSING_WHETHER_RULE
-returns-then-rule-eq-SENSING_WHETHER_RULE c = search lists_sensing
+pub returns-in-SensingWhether : goal.returns-in-SensingWhether
+unfolding for_lists pick
+returns-in-SensingWhether c = search rules
 
-pub returns-then-rule-eq-COMPOSITION_WHETHER_RULE : goal.returns-then-rule-eq-COMPOSITION_WHETHER_RULE
-returns-then-rule-eq-COMPOSITION_WHETHER_RULE c = search lists_composition
+pub returns-in-CompositionWhether : goal.returns-in-CompositionWhether
+unfolding for_lists pick
+returns-in-CompositionWhether c = search rules
 
-pub returns-then-rule-eq-BRANCHING_WHETHER_RULE : goal.returns-then-rule-eq-BRANCHING_WHETHER_RULE
-returns-then-rule-eq-BRANCHING_WHETHER_RULE c = search lists_branching
+pub returns-in-BranchingWhether : goal.returns-in-BranchingWhether
+unfolding for_lists pick
+returns-in-BranchingWhether c = search rules
 
-pub returns : goal.returns
-returns c = search lists_same
+pub returns-in_default : goal.returns-in_default
+unfolding for_lists pick
+returns-in_default c = search rules

@@ -1,21 +1,16 @@
--- Rules 1, 2 and 7 take none, rule 3 one for each reading, rule 5 two, and what is left takes one.
-use Rattle.checking.proofs.EachLineLaws.{takes_empty, takes_action, takes_sensing, takes_composition, takes_look, takes_one}
+-- Each rule takes its own number of citations, and the rules that are not named take one.
+use borrow.Author.Rules.{rules}
+use Rattle.checking.proofs.EachLineLaws.{takes_nothing, takes_sensing, takes_composition, takes_single}
 use Rattle.checking.proofs.each_line.takes.Goals as goal
 
-pub returns-then-rule-eq-EMPTY_RULE : goal.returns-then-rule-eq-EMPTY_RULE
-returns-then-rule-eq-EMPTY_RULE c = search takes_empty
+pub returns-in-Empty : goal.returns-in-Empty
+returns-in-Empty c = search (rules, takes_nothing)
 
-pub returns-then-rule-eq-ACTION_RULE : goal.returns-then-rule-eq-ACTION_RULE
-returns-then-rule-eq-ACTION_RULE c = search takes_action
+pub returns-in-Sensing : goal.returns-in-Sensing
+returns-in-Sensing c = search takes_sensing
 
-pub returns-then-rule-eq-SENSING_RULE : goal.returns-then-rule-eq-SENSING_RULE
-returns-then-rule-eq-SENSING_RULE c = search takes_sensing
+pub returns-in-Composition : goal.returns-in-Composition
+returns-in-Composition c = search takes_composition
 
-pub returns-then-rule-eq-COMPOSITION_RULE : goal.returns-then-rule-eq-COMPOSITION_RULE
-returns-then-rule-eq-COMPOSITION_RULE c = search takes_composition
-
-pub returns-then-rule-eq-LOOK_RULE : goal.returns-then-rule-eq-LOOK_RULE
-returns-then-rule-eq-LOOK_RULE c = search takes_look
-
-pub returns : goal.returns
-returns c = search takes_one
+pub returns-in_default : goal.returns-in_default
+returns-in_default c = search (rules, takes_single)

@@ -7,8 +7,8 @@ use Rattle.checking.proofs.question.check_closing.Goals as goal
 pub sequence_of-whether-requires : goal.sequence_of-whether-requires
 sequence_of-whether-requires c = search goals_here
 
-pub bounds-s-whether : goal.bounds-s-whether
-bounds-s-whether c = search (list_there, whether_here)
+pub bounds-r-whether : goal.bounds-r-whether
+bounds-r-whether c = search (list_there, whether_here)
 
 pub overflow_add-due : goal.overflow_add-due
 overflow_add-due c = search (rules, sum_fits)
@@ -22,17 +22,26 @@ returns-then-count-due c = search closing_not_due
 pub overflow_add-first : goal.overflow_add-first
 overflow_add-first c = search closing_fits
 
-pub names-good-requires : goal.names-good-requires
-names-good-requires c = let pre = c.requires in record { at_hand = search rules; some_lines = search closing_lines; at_in_bounds = goals_number _ _ _ _ c.place_of-closing.ensures pre.some_derivation _ c.wide-count.ensures _ c.if-count-due.false }
+pub names-requires-clause-some_lines : goal.names-requires-clause-some_lines
+names-requires-clause-some_lines c = search closing_lines
 
-pub overflow_add-next : goal.overflow_add-next
-overflow_add-next c = search fluents_fit
+pub names-requires-clause-at_in_bounds : goal.names-requires-clause-at_in_bounds
+names-requires-clause-at_in_bounds c = goals_number _ _ _ _ c.place_of-closing.ensures c.requires _ c.wide-count.ensures _ c.if-count-due.false
 
-pub check_fluents-requires : goal.check_fluents-requires
-check_fluents-requires c = let pre = c.requires in let numbers = fluents_numbers _ _ _ _ c.place_of-closing.ensures pre.some_derivation _ c.wide-count.ensures _ c.if-count-due.false _ c.wide-due.ensures in record { at_hand = search rules; some_lines = search closing_lines; list_here = search whether_here; whether_in_bounds = numbers }
+pub overflow_add-closing : goal.overflow_add-closing
+overflow_add-closing c = search fluents_fit
 
-pub returns-then-good : goal.returns-then-good
-returns-then-good c = search goals_right
+pub check_fluents-requires-clause-some_lines : goal.check_fluents-requires-clause-some_lines
+check_fluents-requires-clause-some_lines c = search closing_lines
+
+pub check_fluents-requires-clause-list_here : goal.check_fluents-requires-clause-list_here
+check_fluents-requires-clause-list_here c = search whether_here
+
+pub check_fluents-requires-clause-whether_in_bounds : goal.check_fluents-requires-clause-whether_in_bounds
+check_fluents-requires-clause-whether_in_bounds c = fluents_numbers _ _ _ _ c.place_of-closing.ensures c.requires _ c.wide-count.ensures _ c.if-count-due.false _ c.wide-due.ensures
+
+pub returns-then-not-names : goal.returns-then-not-names
+returns-then-not-names c = search goals_wrong
 
 pub returns : goal.returns
-returns c = search goals_wrong
+returns c = search goals_right

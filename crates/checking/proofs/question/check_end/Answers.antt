@@ -8,17 +8,17 @@ spot_of-l-requires-clause-some_lines c = search plain_lines
 pub spot_of-l-requires-clause-k_lt_lines : goal.spot_of-l-requires-clause-k_lt_lines
 spot_of-l-requires-clause-k_lt_lines c = search last_below
 
-pub asks-asked-requires-clause-some_stands : goal.asks-asked-requires-clause-some_stands
-asks-asked-requires-clause-some_stands c = search last_some
+pub asks-requires : goal.asks-requires
+asks-requires c = search last_some
 
-pub returns-then-asked : goal.returns-then-asked
-returns-then-asked c = search last_asks
+pub returns-then-asks : goal.returns-then-asks
+returns-then-asks c = search last_asks
 
-pub check_closing-requires-clause-some_derivation : goal.check_closing-requires-clause-some_derivation
-check_closing-requires-clause-some_derivation c = search closing_stands
+pub check_closing-requires : goal.check_closing-requires
+check_closing-requires c = search closing_stands
 
-pub returns-else-asked : goal.returns-else-asked
-returns-else-asked c = search last_other
+pub returns-else-asks : goal.returns-else-asks
+returns-else-asks c = search last_other
 
 pub returns-in-Closing : goal.returns-in-Closing
 returns-in-Closing c = search end_closes

@@ -1,10 +1,8 @@
--- What all entries give is what those from the number at `at` on give, with the fluents after i.
-use Prim.Native.Nat.{◌-◌}
+-- What all entries give is what those from number k on give.
+use Prim.Native.Nat.{◌+◌, ◌*◌}
+use lib.ListN.{get_or}
 use Rattle.checking.proofs.ClosingLaws.{SoFar}
 use Rattle.checking.proofs.question.check_fluents.Given as goal
 
-abbrev pub invariant-loop-i : goal.invariant-loop-i
-invariant-loop-i l = SoFar l.s l.t l.d l.places l.lines l.whether l.first l.end l.i l.at
-
-abbrev pub decreases-loop-i : goal.decreases-loop-i
-decreases-loop-i l = l.end - l.i
+abbrev pub invariant-loop-k : goal.invariant-loop-k
+invariant-loop-k l = SoFar l.r.bytes.now l.r.notes.now l.d l.places l.lines l.whether l.first (l.whether + get_or l.r.bytes.now l.whether 0) (l.whether + l.k) (l.first + 2 * l.k)

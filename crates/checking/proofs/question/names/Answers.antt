@@ -2,11 +2,11 @@
 use Rattle.checking.proofs.ClosingLaws.{line_some, named, not_named}
 use Rattle.checking.proofs.question.names.Goals as goal
 
-pub asks-requires-clause-some_stands : goal.asks-requires-clause-some_stands
-asks-requires-clause-some_stands c = search line_some
+pub asks-requires : goal.asks-requires
+asks-requires c = search line_some
 
 pub returns-then-number-lines : goal.returns-then-number-lines
 returns-then-number-lines c = search named
 
-pub returns : goal.returns
-returns c = search not_named
+pub returns-else-number-lines : goal.returns-else-number-lines
+returns-else-number-lines c = search not_named

@@ -1,34 +1,23 @@
 -- The entries left are the literals left exactly where the list is what the state knows; each known fluent takes one entry.
-use Rattle.reading.proofs.MarkLaws.{count_there, list_fits}
-use Rattle.comparing.proofs.KnownLaws.{list_ends, known_starts, literal_fits, known_none, known_short, known_differs, known_same, known_done}
-use borrow.Author.Rules.{rules}
+use Rattle.comparing.proofs.KnownLaws.{known_starts, known_none, known_short, known_differs, known_same, known_done}
 use Rattle.comparing.proofs.known.lists_known.Goals as goal
 
-pub bounds-s-p : goal.bounds-s-p
-bounds-s-p c = search count_there
-
-pub overflow_add-end : goal.overflow_add-end
-overflow_add-end c = search list_fits
-
 pub loop-f-init : goal.loop-f-init
-loop-f-init c = search (rules, list_ends, known_starts)
+loop-f-init c = known_starts _ _ _ _ c.listed.ensures.entries c.iter-entries.ensures.rest
 
-pub loop-f-preserved-then-mark-eq0 : goal.loop-f-preserved-then-mark-eq0
-loop-f-preserved-then-mark-eq0 c = search (rules, known_none)
+pub loop-f-preserved-then-mark-eq-UNKNOWN_MARK : goal.loop-f-preserved-then-mark-eq-UNKNOWN_MARK
+loop-f-preserved-then-mark-eq-UNKNOWN_MARK c = search known_none
 
-pub returns-then-end-i : goal.returns-then-end-i
-returns-then-end-i c = search known_short
+pub returns-in_default : goal.returns-in_default
+returns-in_default c = let none = c.in_default.ensures.steps.0 in search known_short
 
-pub overflow_add-l : goal.overflow_add-l
-overflow_add-l c = search literal_fits
-
-pub returns-then-wide-l : goal.returns-then-wide-l
-returns-then-wide-l c = search known_differs
+pub returns-then-wide-f : goal.returns-then-wide-f
+returns-then-wide-f c =
+    known_differs _ c.requires.marked _ _ _ c.loop-f.invariant c.loop-f-test.true c.if-mark-eq-UNKNOWN_MARK.false _ c.wide-in-loop-f.ensures _ _ _ c.in-Some.ensures.steps c.wide.ensures c.if-wide-f.true
 
 pub loop-f-preserved : goal.loop-f-preserved
-loop-f-preserved c = let mark = c.wide-mark.ensures in
-    let entry = c.wide-in-loop-f.ensures in
-    (search rules, search rules, known_same _ (search rules) _ _ mark (search rules) _ _ _ _ (search rules) (search rules) (search rules) _ entry (search rules))
+loop-f-preserved c =
+    known_same _ c.requires.marked _ _ _ c.loop-f.invariant c.loop-f-test.true c.if-mark-eq-UNKNOWN_MARK.false _ c.wide-in-loop-f.ensures _ _ _ c.in-Some.ensures.steps c.wide.ensures c.if-wide-f.false
 
 pub returns : goal.returns
-returns c = search known_done
+returns c = known_done _ c.requires.marked _ _ _ c.loop-f.invariant c.loop-f-test.false _ _ c.is_none.ensures _ _ c.next-2.ensures.steps

@@ -1,18 +1,19 @@
 -- The list and the rule byte, or the rule byte and the conclusion, by the layout: the first fault is the line's.
+use borrow.Author.Rules.{rules}
 use Rattle.derivation.proofs.DerivationLaws.{ruled_whole, ruled_fault, listed_fault, rule_whole, rule_fault}
 use Rattle.derivation.proofs.derivations.concluded_at.Goals as goal
 
-pub returns-in-Value : goal.returns-in-Value
-returns-in-Value c = search ruled_whole
+pub returns-in_err-rule-in-Plain : goal.returns-in_err-rule-in-Plain
+returns-in_err-rule-in-Plain c = search (rules, listed_fault)
 
-pub returns-in-Fault-byte_at : goal.returns-in-Fault-byte_at
-returns-in-Fault-byte_at c = search ruled_fault
+pub returns-in_err-after-in-Plain : goal.returns-in_err-after-in-Plain
+returns-in_err-after-in-Plain c = search (rules, ruled_fault)
 
-pub returns-in-Fault : goal.returns-in-Fault
-returns-in-Fault c = search listed_fault
+pub returns-in_ok-after-in-Plain : goal.returns-in_ok-after-in-Plain
+returns-in_ok-after-in-Plain c = ruled_whole _ _ _ _ _ c.in-Plain.is c.list_at.ensures _ c.in_ok-rule-in-Plain.was _ c.byte_at.ensures _ _ c.in_ok-after-in-Plain.was
 
-pub returns-in-Value-byte_at : goal.returns-in-Value-byte_at
-returns-in-Value-byte_at c = search rule_whole
+pub returns-in_err-rule-in-Closing : goal.returns-in_err-rule-in-Closing
+returns-in_err-rule-in-Closing c = search (rules, rule_fault)
 
-pub returns-in-Fault-byte_at-2 : goal.returns-in-Fault-byte_at-2
-returns-in-Fault-byte_at-2 c = search rule_fault
+pub returns-in_ok-rule-in-Closing : goal.returns-in_ok-rule-in-Closing
+returns-in_ok-rule-in-Closing c = search (rules, rule_whole)

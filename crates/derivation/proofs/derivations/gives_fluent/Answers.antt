@@ -1,18 +1,18 @@
--- The five rules one after another.
-use Rattle.derivation.proofs.DerivationLaws.{fluent_by_7, fluent_by_8, fluent_by_10, fluent_by_11, fluent_by_12}
+-- Each rule's own number says what it concludes, and where there is no rule 0 does.
+use borrow.Author.Rules.{rules}
+use Rattle.meaning.specs.Derivations.{concludes_fluent}
+use Rattle.meaning.specs.Literals.{among}
+use Rattle.meaning.specs.Tests.{some_of, either}
 use Rattle.derivation.proofs.derivations.gives_fluent.Goals as goal
 
-pub returns-then-rule-eq-LOOK_RULE : goal.returns-then-rule-eq-LOOK_RULE
-returns-then-rule-eq-LOOK_RULE c = search fluent_by_7
+pub returns-in-Some-Look : goal.returns-in-Some-Look
+unfolding concludes_fluent among some_of either
+returns-in-Some-Look c = search rules
 
-pub returns-then-rule-eq-LITERAL_RULE : goal.returns-then-rule-eq-LITERAL_RULE
-returns-then-rule-eq-LITERAL_RULE c = search fluent_by_8
+pub returns-in_default : goal.returns-in_default
+unfolding concludes_fluent among some_of either
+returns-in_default c = search rules
 
-pub returns-then-rule-eq-SENSING_WHETHER_RULE : goal.returns-then-rule-eq-SENSING_WHETHER_RULE
-returns-then-rule-eq-SENSING_WHETHER_RULE c = search fluent_by_10
-
-pub returns-then-rule-eq-COMPOSITION_WHETHER_RULE : goal.returns-then-rule-eq-COMPOSITION_WHETHER_RULE
-returns-then-rule-eq-COMPOSITION_WHETHER_RULE c = search fluent_by_11
-
-pub returns : goal.returns
-returns c = search fluent_by_12
+pub returns-in_default-2 : goal.returns-in_default-2
+unfolding concludes_fluent among some_of either
+returns-in_default-2 c = search rules

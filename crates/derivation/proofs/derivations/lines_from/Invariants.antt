@@ -10,6 +10,3 @@ use Rattle.derivation.proofs.derivations.lines_from.Given as goal
 
 abbrev pub invariant-loop-k : goal.invariant-loop-k
 invariant-loop-k l = noting (places_noted 0) (repeated (line_at format l.n l.m l.s l.layout) l.count l.start) l.initial.places ≡ noting (places_noted l.k) (repeated (line_at format l.n l.m l.s l.layout) (l.count - l.k) l.p) l.places
-
-abbrev pub decreases-loop-k : goal.decreases-loop-k
-decreases-loop-k l = l.count - l.k

@@ -14,8 +14,8 @@ overlap-requires-clause-counted c = search counted_flags
 pub overlap-requires-clause-some_plan : goal.overlap-requires-clause-some_plan
 overlap-requires-clause-some_plan c = search (rules, line_held)
 
-pub returns-in-Value : goal.returns-in-Value
-returns-in-Value c = search line_sought
+pub returns : goal.returns
+returns c = search line_sought
 
-pub returns-in-Fault : goal.returns-in-Fault
-returns-in-Fault c = search line_read
+pub returns-in_default : goal.returns-in_default
+returns-in_default c = search line_read

@@ -12,8 +12,8 @@ overlap_in_line-requires-clause-list_here c = search line_list
 pub loop-k-preserved : goal.loop-k-preserved
 loop-k-preserved c = search sought_next
 
-pub returns-in-At : goal.returns-in-At
-returns-in-At c = search sought_at
+pub returns-in-Some : goal.returns-in-Some
+returns-in-Some c = search sought_at
 
 pub returns : goal.returns
 returns c = search sought_done

@@ -1,27 +1,30 @@
 -- The three ways out, as of the walk call.
+use mathlib.Core.Path.{◌∙◌}
 use Rattle.glintstring.proofs.JudgingLaws.{guarded_9, guarded_walked, guarded_refused}
-use Rattle.glintstring.proofs.SettledAtHand.{guarded_hand, guarded_form}
+use Rattle.glintstring.proofs.SettledAtHand.{guarded_hand}
 use Rattle.verdicts.proofs.ReleasingLaws.{blank_is}
 use borrow.Author.Rules.{rules}
 use Rattle.glintstring.proofs.judging.judge_guarded.Goals as goal
 
 pub returns-then-state-ne-STATE_BYTES : goal.returns-then-state-ne-STATE_BYTES
 returns-then-state-ne-STATE_BYTES c =
-    let both = guarded_9 _ _ _ _ _ c.if-state-ne-STATE_BYTES.true c.without_walk.ensures.answer_value c.without_walk.ensures.line_value in
+    let both = guarded_9 _ _ _ _ _ c.if-state-ne-STATE_BYTES.true (c.without_walk.ensures.answer_value ∙ c.uncounted.ensures) c.without_walk.ensures.line_value in
     record { given = both.0; line = both.1 }
 
 pub settle_guarded-requires : goal.settle_guarded-requires
-settle_guarded-requires c = search blank_is
+settle_guarded-requires c = search (rules, blank_is)
 
-pub walk_with_line-requires : goal.walk_with_line-requires
-walk_with_line-requires c = let told = c.in-To.is in let bytes = c.shared_slice_known-1.given in record { at_hand = guarded_hand _ _ _ _ c.settle_guarded.ensures _ told bytes blank_is; t_value = guarded_form _ _ _ _ c.settle_guarded.ensures _ told bytes blank_is; state_len = search rules }
+pub of-requires : goal.of-requires
+of-requires c = let told = c.in-Ok.is in let bytes = c.type_inv.request in guarded_hand _ _ _ _ c.settle_guarded.ensures _ told bytes blank_is
 
-pub returns-in-To : goal.returns-in-To
-returns-in-To c =
-    let both = guarded_walked _ _ _ _ _ c.if-state-ne-STATE_BYTES.false _ _ _ c.settle_guarded.ensures _ c.in-To.is c.shared_slice_known-1.given blank_is _ c.walk_with_line.ensures.given c.walk_with_line.ensures.line in
+pub returns-in-Ok : goal.returns-in-Ok
+returns-in-Ok c =
+    let given = rw (c.of.ensures.bytes, c.of.ensures.notes) at c.walk_with_line.ensures.given in
+    let line = rw c.of.ensures.bytes at c.walk_with_line.ensures.line in
+    let both = guarded_walked _ _ _ _ _ c.if-state-ne-STATE_BYTES.false _ _ _ c.settle_guarded.ensures _ c.in-Ok.is c.type_inv.request blank_is _ given line in
     record { given = both.0; line = both.1 }
 
-pub returns-in-Fault : goal.returns-in-Fault
-returns-in-Fault c =
-    let both = guarded_refused _ _ _ _ _ c.if-state-ne-STATE_BYTES.false _ _ _ c.settle_guarded.ensures _ _ c.in-Fault.is c.without_walk-in-Fault.ensures.answer_value c.without_walk-in-Fault.ensures.line_value in
+pub returns-in-Err : goal.returns-in-Err
+returns-in-Err c =
+    let both = guarded_refused _ _ _ _ _ c.if-state-ne-STATE_BYTES.false _ _ _ c.settle_guarded.ensures _ c.in-Err.is (c.without_walk-in-Err.ensures.answer_value ∙ c.refused.ensures) c.without_walk-in-Err.ensures.line_value in
     record { given = both.0; line = both.1 }

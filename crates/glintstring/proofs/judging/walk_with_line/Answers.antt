@@ -8,5 +8,5 @@ line_at-line-requires-clause-item_byte c = search stop_byte
 pub returns-then-answer-eq-NOT_EXECUTABLE-clause-line : goal.returns-then-answer-eq-NOT_EXECUTABLE-clause-line
 returns-then-answer-eq-NOT_EXECUTABLE-clause-line c = search told_stuck
 
-pub returns-clause-line : goal.returns-clause-line
-returns-clause-line c = search told_none
+pub returns-else-answer-eq-NOT_EXECUTABLE-clause-line : goal.returns-else-answer-eq-NOT_EXECUTABLE-clause-line
+returns-else-answer-eq-NOT_EXECUTABLE-clause-line c = search told_none

@@ -2,11 +2,11 @@
 use Rattle.glintstring.proofs.MissingLaws.{line_branching, action_small, line_by, line_short, line_never, by_small, short_small}
 use Rattle.glintstring.proofs.missing.line_at.Goals as goal
 
-pub returns-then-request-place : goal.returns-then-request-place
-returns-then-request-place c = search line_branching
+pub returns-then-r-place : goal.returns-then-r-place
+returns-then-r-place c = search line_branching
 
-pub ask-requires-clause-a_lt_actions : goal.ask-requires-clause-a_lt_actions
-ask-requires-clause-a_lt_actions c = search action_small
+pub ask-requires : goal.ask-requires
+ask-requires c = search action_small
 
 pub narrowed-requires : goal.narrowed-requires
 narrowed-requires c = search by_small

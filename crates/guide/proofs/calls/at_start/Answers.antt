@@ -1,16 +1,17 @@
 -- A settled request is at hand, with its facts at place 2.
+use borrow.Author.Rules.{rules}
 use Rattle.verdicts.proofs.ReleasingLaws.{blank_is}
 use Rattle.guide.proofs.GuideHeldLaws.{settled_facts, begins, begins_not}
 use Rattle.guide.proofs.calls.at_start.Goals as goal
 
 pub settle-requires : goal.settle-requires
-settle-requires c = search blank_is
+settle-requires c = search (rules, blank_is)
 
 pub state_of-requires : goal.state_of-requires
-state_of-requires c = search (settled_facts, blank_is)
+state_of-requires c = search (rules, settled_facts, blank_is)
 
-pub returns-in-To : goal.returns-in-To
-returns-in-To c = search (begins, blank_is)
+pub returns-in-Ok : goal.returns-in-Ok
+returns-in-Ok c = search (rules, begins, blank_is)
 
-pub returns-in-Fault : goal.returns-in-Fault
-returns-in-Fault c = search begins_not
+pub returns-in-Err : goal.returns-in-Err
+returns-in-Err c = search (rules, begins_not)

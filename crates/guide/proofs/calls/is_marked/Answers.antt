@@ -1,15 +1,14 @@
--- All marks pass where those from fluent f up do.
-use Rattle.guide.proofs.GuideTestLaws.{marks_start, mark_large, mark_small, marks_done}
+-- All marks pass where each does.
+use mathlib.Core.Path.{◌∙◌}
+use lib.Dec.{leb}
+use borrow.Author.Rules.{rules}
+use borrow.Author.Tests.{tests}
+use Rattle.std.proofs.lemmas.Iterator.{YieldsList-from_slice}
+use Rattle.std.proofs.lemmas.Iterator.Search.{all_from_yields_List}
+use Rattle.guide.proofs.GuideTestLaws.{all_marked}
 use Rattle.guide.proofs.calls.is_marked.Goals as goal
 
-pub loop-f-init : goal.loop-f-init
-loop-f-init c = search marks_start
-
-pub returns-then-row-here-gt2 : goal.returns-then-row-here-gt2
-returns-then-row-here-gt2 c = search mark_large
-
-pub loop-f-preserved : goal.loop-f-preserved
-loop-f-preserved c = search mark_small
-
 pub returns : goal.returns
-returns c = search marks_done
+returns c =
+    all_from_yields_List (λ m. leb m 2) _ _ _ c.all.ensures.ran (YieldsList-from_slice c.args.marks.now (search rules)) (λ x b q k. search (rules, tests))
+    ∙ all_marked c.args.marks.now

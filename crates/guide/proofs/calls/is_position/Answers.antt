@@ -5,5 +5,5 @@ use Rattle.guide.proofs.calls.is_position.Goals as goal
 pub returns-then-at-eq-ITEMS : goal.returns-then-at-eq-ITEMS
 returns-then-at-eq-ITEMS c = search end_tested
 
-pub returns : goal.returns
-returns c = search item_tested
+pub returns-else-at-eq-ITEMS : goal.returns-else-at-eq-ITEMS
+returns-else-at-eq-ITEMS c = search item_tested

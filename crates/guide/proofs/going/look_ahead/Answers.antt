@@ -1,19 +1,19 @@
 -- What comes from the position now is what comes from the first, and a branching leads to a later one. An action, the plan's end, or a branching with no condition known true is what comes next.
-use Rattle.steps.proofs.OnwardLaws.{item_inside, place_fits, place_there}
+use Rattle.steps.proofs.OnwardLaws.{item_inside}
 use Rattle.guide.proofs.LookAheadLaws.{looking_starts, looking_there, looking_on, looking_none, looking_end, looking_action, looking_item, no_action_none, no_action_end, chosen_falls, place_branching}
 use Rattle.guide.proofs.going.look_ahead.Goals as goal
 
 pub loop-i-init : goal.loop-i-init
 loop-i-init c = search looking_starts
 
-pub overflow_add-slot : goal.overflow_add-slot
-overflow_add-slot c = search (place_fits, looking_there)
+pub bounds-r-get : goal.bounds-r-get
+bounds-r-get c = search (item_inside, looking_there)
 
-pub get-p-requires : goal.get-p-requires
-get-p-requires c = search (place_there, looking_there)
+pub returns-then-r-get-clause-result_value : goal.returns-then-r-get-clause-result_value
+returns-then-r-get-clause-result_value c = search looking_action
 
-pub bounds-s-p : goal.bounds-s-p
-bounds-s-p c = search (item_inside, looking_there)
+pub returns-then-r-get-clause-action_there : goal.returns-then-r-get-clause-action_there
+returns-then-r-get-clause-action_there c = search looking_item
 
 pub chosen-requires-clause-i_bound : goal.chosen-requires-clause-i_bound
 chosen-requires-clause-i_bound c = search looking_there
@@ -27,17 +27,11 @@ loop-i-smaller c = search chosen_falls
 pub loop-i-preserved : goal.loop-i-preserved
 loop-i-preserved c = search looking_on
 
-pub returns-in-Nowhere-clause-result_value : goal.returns-in-Nowhere-clause-result_value
-returns-in-Nowhere-clause-result_value c = search looking_none
+pub returns-in-None-clause-result_value : goal.returns-in-None-clause-result_value
+returns-in-None-clause-result_value c = search looking_none
 
-pub returns-in-Nowhere-clause-action_there : goal.returns-in-Nowhere-clause-action_there
-returns-in-Nowhere-clause-action_there c = search no_action_none
-
-pub returns-in-loop-i-clause-result_value : goal.returns-in-loop-i-clause-result_value
-returns-in-loop-i-clause-result_value c = search looking_action
-
-pub returns-in-loop-i-clause-action_there : goal.returns-in-loop-i-clause-action_there
-returns-in-loop-i-clause-action_there c = search looking_item
+pub returns-in-None-clause-action_there : goal.returns-in-None-clause-action_there
+returns-in-None-clause-action_there c = search no_action_none
 
 pub returns-clause-result_value : goal.returns-clause-result_value
 returns-clause-result_value c = search looking_end

@@ -5,7 +5,7 @@ use Rattle.guide.proofs.LookAheadLaws.{Looking}
 use Rattle.guide.proofs.going.look_ahead.Given as goal
 
 abbrev pub invariant-loop-i : goal.invariant-loop-i
-invariant-loop-i l = Looking l.s l.t l.at l.marks l.i
+invariant-loop-i l = Looking l.r.bytes.now l.r.notes.now l.at l.marks l.i
 
 abbrev pub decreases-loop-i : goal.decreases-loop-i
 decreases-loop-i l = format.items - l.i

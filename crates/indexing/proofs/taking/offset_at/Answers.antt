@@ -4,5 +4,5 @@ use Rattle.indexing.proofs.taking.offset_at.Goals as goal
 
 pub returns : goal.returns
 returns c =
-    let both = offset_read c.args.index.now c.shared_slice_known-3-1.given _ _ c.two.ensures in
+    let both = offset_read c.args.index.now c.type_inv.index _ _ c.two.ensures in
     record { value = both.0; upper_bound = both.1 }

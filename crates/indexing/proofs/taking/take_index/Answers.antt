@@ -47,8 +47,8 @@ overflow_add-runs c = search runs_sum
 
 pub loop-a-preserved : goal.loop-a-preserved
 loop-a-preserved c =
-    action_taken _ _ _ _ _ _ _ _ _ c.loop-a.invariant c.loop-a-test.true _ c.take_lines-middle.ensures.value _ c.wide-d.ensures _ _ _ _
-    c.wide-c.ensures c.take_lines-q.ensures.value c.take_lines-middle.ensures.t_after c.take_lines-q.ensures.t_after
+    action_taken _ _ _ _ _ _ _ _ _ c.loop-a.invariant c.loop-a-test.true _ c.take_lines-middle.ensures.value _ c.wide-run_count.ensures _ _ _ _
+    c.wide-effect_count.ensures c.take_lines-q.ensures.value c.take_lines-middle.ensures.t_after c.take_lines-q.ensures.t_after
 
 pub returns : goal.returns
 returns c = search indexing_done

@@ -2,11 +2,11 @@
 use Rattle.indexing.proofs.TakeLaws.{taking_starts, taking_next, taking_end, taking_done}
 use Rattle.indexing.proofs.taking.take_lines.Goals as goal
 
-pub loop-left-init : goal.loop-left-init
-loop-left-init c = search taking_starts
+pub loop-init : goal.loop-init
+loop-init c = search taking_starts
 
-pub loop-left-preserved : goal.loop-left-preserved
-loop-left-preserved c = search taking_next
+pub loop-preserved : goal.loop-preserved
+loop-preserved c = search taking_next
 
 pub returns-clause-value : goal.returns-clause-value
 returns-clause-value c = search taking_end

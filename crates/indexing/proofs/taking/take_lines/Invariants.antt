@@ -6,8 +6,5 @@ use Rattle.indexing.specs.IndexNotes.{lines_taken}
 use Rattle.indexing.proofs.TakeLaws.{Taking}
 use Rattle.indexing.proofs.taking.take_lines.Given as goal
 
-abbrev pub invariant-loop-left : goal.invariant-loop-left
-invariant-loop-left l = Taking l.index l.lines (lines_taken l.lines (line_numbers + l.a) l.k (counted_at l.index l.q) l.initial.t) (after_counted l.index l.q) l.t l.left l.p l.i l.n
-
-abbrev pub decreases-loop-left : goal.decreases-loop-left
-decreases-loop-left l = l.left
+abbrev pub invariant-loop : goal.invariant-loop
+invariant-loop l = Taking l.index l.lines (lines_taken l.lines (line_numbers + l.a) l.k (counted_at l.index l.q) l.initial.t) (after_counted l.index l.q) l.t l.count l.counter l.p l.i l.n

@@ -3,4 +3,4 @@ use Rattle.parsing.proofs.BitLaws.{has_is}
 use Rattle.parsing.proofs.bits.has_bit.Goals as goal
 
 pub returns : goal.returns
-returns c = search has_is
+returns c = rw c.from.ensures (search has_is)

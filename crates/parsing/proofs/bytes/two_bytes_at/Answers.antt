@@ -1,12 +1,26 @@
 -- None, one or both of the two bytes are there: one law for each.
-use Rattle.parsing.proofs.ByteLaws.{two_bytes_none, two_bytes_half, two_bytes_there}
+use native.Mathlib.Omega.{arith}
+use borrow.Author.Rules.{rules}
+use Rattle.parsing.proofs.ByteLaws.{byte_fits, high_fault, low_fault, two_bytes_there}
 use Rattle.parsing.proofs.bytes.two_bytes_at.Goals as goal
 
-pub returns-then-s-p : goal.returns-then-s-p
-returns-then-s-p c = search two_bytes_none
+pub returns-in_err-high : goal.returns-in_err-high
+returns-in_err-high c = search (rules, high_fault)
 
-pub returns-then-s-q : goal.returns-then-s-q
-returns-then-s-q c = search two_bytes_half
+pub returns-in_err-low : goal.returns-in_err-low
+returns-in_err-low c = search (rules, low_fault)
+
+pub overflow_mul-result : goal.overflow_mul-result
+overflow_mul-result c =
+    let high = byte_fits _ _ _ _ c.type_inv.s c.in_ok-high.ensures in
+    let low = byte_fits _ _ _ _ c.type_inv.s c.in_ok-low.ensures in
+    record { fits = omega arith }
+
+pub overflow_add-result : goal.overflow_add-result
+overflow_add-result c =
+    let high = byte_fits _ _ _ _ c.type_inv.s c.in_ok-high.ensures in
+    let low = byte_fits _ _ _ _ c.type_inv.s c.in_ok-low.ensures in
+    record { fits = omega arith }
 
 pub returns : goal.returns
-returns c = search two_bytes_there
+returns c = search (rules, two_bytes_there)

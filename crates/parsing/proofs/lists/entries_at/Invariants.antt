@@ -1,11 +1,9 @@
--- At each turn what the whole list gives is what the entries left give, after the last one read.
-use mathlib.Core.Path.{◌≡◌}
-use Rattle.meaning.specs.Reading.{entries_at}
-use Rattle.parsing.specs.Read.{passed, kind_of}
+-- At each turn what the whole list gives is what the entries left give, after those so far.
+use Prim.Native.Nat.{◌-◌}
+use mathlib.Core.List.{[]}
+use Rattle.parsing.specs.Read.{passed}
+use Rattle.parsing.proofs.ListLaws.{Ahead}
 use Rattle.parsing.proofs.lists.entries_at.Given as goal
 
-abbrev pub invariant-loop-left : goal.invariant-loop-left
-invariant-loop-left l = passed (entries_at (kind_of l.kind) l.n l.s l.count l.start 0) ≡ passed (entries_at (kind_of l.kind) l.n l.s l.left l.p l.floor)
-
-abbrev pub decreases-loop-left : goal.decreases-loop-left
-decreases-loop-left l = l.left
+abbrev pub invariant-loop : goal.invariant-loop
+invariant-loop g l = Ahead (g.E.Entry.entries l.fn.first l.n l.s) (g.E.Entry.kept l.fn.first l.kept l.s) (passed (g.E.Entry.entries l.fn.first l.n l.s l.count l.start [])) (l.count - l.counter) l.p l.floor

@@ -1,12 +1,13 @@
 -- A literal that is read says "is" or "is not".
+use borrow.Author.Rules.{rules}
 use Rattle.parsing.proofs.ValueReaderLaws.{set_fault, set_is, set_is_not}
 use Rattle.parsing.proofs.values.set_value_at.Goals as goal
 
-pub returns-then-x-eq0 : goal.returns-then-x-eq0
-returns-then-x-eq0 c = search set_is
+pub returns-in_err-x : goal.returns-in_err-x
+returns-in_err-x c = search (rules, set_fault)
 
-pub returns-else-x-eq0 : goal.returns-else-x-eq0
-returns-else-x-eq0 c = search set_is_not
+pub returns-then-x-ne0 : goal.returns-then-x-ne0
+returns-then-x-ne0 c = search (rules, set_is_not)
 
-pub returns-in-Fault : goal.returns-in-Fault
-returns-in-Fault c = search set_fault
+pub returns : goal.returns
+returns c = search (rules, set_is)

@@ -1,15 +1,18 @@
--- None of the values below the one looked at is left.
-use Rattle.parsing.proofs.MaskLaws.{none_yet, none_more, none_left, left_found}
+-- Each value is asked for, and what `any` tells of them is what is said of some.
+use native.Mathlib.Omega.{arith}
+use mathlib.Core.Path.{◌∙◌, refl}
+use borrow.Author.Rules.{rules}
+use borrow.Author.Tests.{tests}
+use Rattle.std.proofs.lemmas.Iterator.{YieldsList-from_range, serves_from_Range}
+use Rattle.std.proofs.lemmas.Iterator.Search.{any_from_yields_List}
+use Rattle.parsing.specs.Bits.{bit_of}
+use Rattle.parsing.proofs.MaskLaws.{left_any}
 use Rattle.parsing.proofs.values.some_left.Goals as goal
 
-pub loop-v-init : goal.loop-v-init
-loop-v-init c = search none_yet
-
-pub returns-then-there : goal.returns-then-there
-returns-then-there c = search left_found
-
-pub loop-v-preserved : goal.loop-v-preserved
-loop-v-preserved c = search none_more
+pub any-requires-clause-callable : goal.any-requires-clause-callable
+any-requires-clause-callable c = serves_from_Range (λ x q h. search rules) (λ v from to. let few = c.requires in search rules)
 
 pub returns : goal.returns
-returns c = search none_left
+returns c =
+    any_from_yields_List (bit_of c.args.m) _ _ _ c.any.ensures.ran (YieldsList-from_range 0 c.args.values c.args.values refl (omega arith)) (λ x b q k. search (rules, tests))
+    ∙ left_any c.args.m c.args.values

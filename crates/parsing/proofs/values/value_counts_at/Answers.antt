@@ -1,16 +1,13 @@
 -- At each turn what the whole gives is what the bytes left give.
+use borrow.Author.Rules.{rules}
 use Rattle.parsing.proofs.ValueReaderLaws.{counts_done, counts_fault, counts_next}
-use mathlib.Core.Path.{refl}
 use Rattle.parsing.proofs.values.value_counts_at.Goals as goal
 
-pub loop-left-init : goal.loop-left-init
-loop-left-init c = refl
+pub loop-preserved : goal.loop-preserved
+loop-preserved c = search (rules, counts_next)
 
-pub loop-left-preserved : goal.loop-left-preserved
-loop-left-preserved c = search counts_next
-
-pub returns-in-Fault : goal.returns-in-Fault
-returns-in-Fault c = search counts_fault
+pub returns-in_err-after : goal.returns-in_err-after
+returns-in_err-after c = search (rules, counts_fault)
 
 pub returns : goal.returns
-returns c = search counts_done
+returns c = search (rules, counts_done)

@@ -3,17 +3,17 @@ use Rattle.refusing.proofs.Laws16.{bucket_got, effect_there, effect_second, effe
 use borrow.Author.Rules.{rules}
 use Rattle.refusing.proofs.refusal_16.bucket_at.Goals as goal
 
-pub overflow_add-q : goal.overflow_add-q
-overflow_add-q c = search effect_fits
-
-pub bounds-s-q : goal.bounds-s-q
-bounds-s-q c = search (rules, effect_second)
+pub overflow_add-p : goal.overflow_add-p
+overflow_add-p c = search effect_fits
 
 pub bounds-s-p : goal.bounds-s-p
 bounds-s-p c = search (rules, effect_there)
 
+pub bounds-s-p-2 : goal.bounds-s-p-2
+bounds-s-p-2 c = search (rules, effect_second)
+
 pub overflow_add-result : goal.overflow_add-result
-overflow_add-result c = search (bucket_fits, c.shared_slice_known-1.given)
+overflow_add-result c = search bucket_fits
 
 pub returns : goal.returns
 returns c = search bucket_got

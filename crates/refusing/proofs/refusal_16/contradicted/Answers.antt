@@ -1,50 +1,40 @@
--- The last effect of the bucket leads to all that can be contradicted; where there is none, none is.
-use Rattle.refusing.proofs.Laws16.{new_fit, last_there, last_fits, none_sought, sought_starts, runs_as, effects_as, linked_as, sought_as, among_as}
-use Rattle.parsing.proofs.LineReaderLaws.{counted_values}
-use borrow.Author.Rules.{rules}
+-- The links lead to each earlier effect in the same bucket, and no other can be contradicted; they fall, so the loop ends.
+use Rattle.refusing.proofs.Clashes.{body_fits}
+use Rattle.refusing.proofs.Laws16.{new_fit, last_there, last_fits, none_sought, sought_starts, sought_done, sought_less, sought_fit, sought_met, sought_next}
 use Rattle.refusing.proofs.refusal_16.contradicted.Goals as goal
 
-pub bucket_at-bucket-requires : goal.bucket_at-bucket-requires
-bucket_at-bucket-requires c = search (rules, new_fit)
+pub bucket_at-requires : goal.bucket_at-requires
+bucket_at-requires g c = rw c.FORM.ensures (search new_fit)
 
-pub overflow_add-last : goal.overflow_add-last
-overflow_add-last c = search last_fits
+pub overflow_add-bucket_at : goal.overflow_add-bucket_at
+overflow_add-bucket_at g c = let bucket = rw c.FORM.ensures at c.bucket_at.ensures in search last_fits
 
-pub bounds-same-last : goal.bounds-same-last
-bounds-same-last c = search last_there
+pub bounds-same-bucket_at : goal.bounds-same-bucket_at
+bounds-same-bucket_at g c = let bucket = rw c.FORM.ensures at c.bucket_at.ensures in search last_there
 
-pub returns-then-j-eq0 : goal.returns-then-j-eq0
-returns-then-j-eq0 c = search none_sought
+pub returns-then-i-eq0 : goal.returns-then-i-eq0
+returns-then-i-eq0 g c = let bucket = rw c.FORM.ensures at c.bucket_at.ensures in search none_sought
 
-pub contradicted_flags-requires-clause-runs_here : goal.contradicted_flags-requires-clause-runs_here
-contradicted_flags-requires-clause-runs_here c = search runs_as
+pub overflow_add-p : goal.overflow_add-p
+overflow_add-p g c =
+    let here = new_fit g.H.Held.FORM _ _ _ c.requires.effects_here _ c.line_place-p.ensures in
+    let at = g.met.H.Held.body_law c.line_place-p.result in
+    rw c.BODY.ensures (search body_fits)
 
-pub contradicted_flags-requires-clause-effects_here : goal.contradicted_flags-requires-clause-effects_here
-contradicted_flags-requires-clause-effects_here c = search effects_as
+pub loop-i-init : goal.loop-i-init
+loop-i-init g c = let bucket = rw c.FORM.ensures at c.bucket_at.ensures in search sought_starts
 
-pub contradicted_flags-requires-clause-linked : goal.contradicted_flags-requires-clause-linked
-contradicted_flags-requires-clause-linked c = search linked_as
+pub contradicts-requires-clause-effect_here_2 : goal.contradicts-requires-clause-effect_here_2
+contradicts-requires-clause-effect_here_2 g c = search sought_fit
 
-pub contradicted_flags-requires-clause-sought : goal.contradicted_flags-requires-clause-sought
-contradicted_flags-requires-clause-sought c = search (sought_as, sought_starts)
+pub returns-then-contradicts : goal.returns-then-contradicts
+returns-then-contradicts g c = search sought_met
 
-pub contradicted_values-requires-clause-runs_here : goal.contradicted_values-requires-clause-runs_here
-contradicted_values-requires-clause-runs_here c = search runs_as
+pub loop-i-smaller : goal.loop-i-smaller
+loop-i-smaller g c = search sought_less
 
-pub contradicted_values-requires-clause-few_values : goal.contradicted_values-requires-clause-few_values
-contradicted_values-requires-clause-few_values c = search counted_values
+pub loop-i-preserved : goal.loop-i-preserved
+loop-i-preserved g c = search sought_next
 
-pub contradicted_values-requires-clause-effects_here : goal.contradicted_values-requires-clause-effects_here
-contradicted_values-requires-clause-effects_here c = search effects_as
-
-pub contradicted_values-requires-clause-linked : goal.contradicted_values-requires-clause-linked
-contradicted_values-requires-clause-linked c = search linked_as
-
-pub contradicted_values-requires-clause-sought : goal.contradicted_values-requires-clause-sought
-contradicted_values-requires-clause-sought c = search (sought_as, sought_starts)
-
-pub returns-in-Flags : goal.returns-in-Flags
-returns-in-Flags c = search among_as
-
-pub returns-in-Valued : goal.returns-in-Valued
-returns-in-Valued c = search among_as
+pub returns : goal.returns
+returns g c = search sought_done

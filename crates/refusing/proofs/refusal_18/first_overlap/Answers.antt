@@ -5,16 +5,16 @@ use borrow.Author.Rules.{rules}
 use Rattle.refusing.proofs.refusal_18.first_overlap.Goals as goal
 
 pub loop-i-init : goal.loop-i-init
-loop-i-init c = search (rules, overlap_starts)
+loop-i-init g c = search (rules, overlap_starts)
 
-pub apart-good-requires-clause-item_here : goal.apart-good-requires-clause-item_here
-apart-good-requires-clause-item_here c = search item_there
+pub apart-requires-clause-item_here : goal.apart-requires-clause-item_here
+apart-requires-clause-item_here g c = search item_there
 
 pub loop-i-preserved : goal.loop-i-preserved
-loop-i-preserved c = search (rules, overlap_next)
+loop-i-preserved g c = search (rules, overlap_next)
 
-pub returns-in-loop-i : goal.returns-in-loop-i
-returns-in-loop-i c = search overlap_here
+pub returns-then-not-apart : goal.returns-then-not-apart
+returns-then-not-apart g c = search overlap_here
 
 pub returns : goal.returns
-returns c = search overlap_done
+returns g c = search overlap_done

@@ -6,7 +6,4 @@ use Rattle.refusing.specs.Refusal18.{first_overlap}
 use Rattle.refusing.proofs.refusal_18.first_overlap.Given as goal
 
 abbrev pub invariant-loop-i : goal.invariant-loop-i
-invariant-loop-i l = found (first_overlap l.form l.s l.t l.count 0) ≡ found (first_overlap l.form l.s l.t (l.count - l.i) l.i)
-
-abbrev pub decreases-loop-i : goal.decreases-loop-i
-decreases-loop-i l = l.count - l.i
+invariant-loop-i g l = let form = g.H.Held.FORM in found (first_overlap form l.s l.t l.count 0) ≡ found (first_overlap form l.s l.t (l.count - l.i) l.i)

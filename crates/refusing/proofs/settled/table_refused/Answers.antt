@@ -6,8 +6,8 @@ use Rattle.refusing.proofs.settled.table_refused.Goals as goal
 pub contradiction-requires : goal.contradiction-requires
 contradiction-requires c = search (rules, few_16, runs_16, values_16, stand_16)
 
-pub returns-in-Nowhere : goal.returns-in-Nowhere
-returns-in-Nowhere c = search past_16
+pub returns-in-None : goal.returns-in-None
+returns-in-None c = search (rules, past_16)
 
-pub returns-in-At : goal.returns-in-At
-returns-in-At c = search at_16
+pub returns-in-Some : goal.returns-in-Some
+returns-in-Some c = search (rules, at_16)

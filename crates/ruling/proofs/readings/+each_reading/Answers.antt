@@ -5,20 +5,20 @@ use Rattle.ruling.proofs.ReadingRuleLaws.{next_falls, first_fails, both_read, re
 use borrow.Author.Rules.{rules}
 use Rattle.ruling.proofs.readings.+each_reading.Goals as goal
 
+pub returns-then-f-ge-FLUENTS : goal.returns-then-f-ge-FLUENTS
+returns-then-f-ge-FLUENTS t c = search read_whole
+
 pub next_unknown-g-requires-clause-marked_as : goal.next_unknown-g-requires-clause-marked_as
 next_unknown-g-requires-clause-marked_as t c = search first_marked
 
 pub each_reading-requires : goal.each_reading-requires
-each_reading-requires t c = (search next_falls, (search rules, (search rules, (search first_marked, search rules))))
+each_reading-requires t c = (search next_falls, (search rules, (search first_marked, search rules)))
 
-pub each_reading-requires-in-To : goal.each_reading-requires-in-To
-each_reading-requires-in-To t c = (search next_falls, (search rules, (search rules, (search second_marked, search rules))))
+pub returns-in_err-j : goal.returns-in_err-j
+returns-in_err-j t c = rw c.from_residual.ensures (search (first_fails, c.in_err-j.was))
 
-pub returns-in-To : goal.returns-in-To
-returns-in-To t c = search both_read
-
-pub returns-in-Fails : goal.returns-in-Fails
-returns-in-Fails t c = search first_fails
+pub each_reading-requires-2 : goal.each_reading-requires-2
+each_reading-requires-2 t c = (search next_falls, (search rules, (search second_marked, search rules)))
 
 pub returns : goal.returns
-returns t c = search read_whole
+returns t c = search (both_read, c.in_ok-j.was)

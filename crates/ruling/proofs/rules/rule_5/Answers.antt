@@ -1,13 +1,16 @@
 -- The lists are what stands at their places, and the plan is the join of the two exactly where the plan that stands there is. A fluent is no list.
 use Rattle.ruling.proofs.RuleLaws.{YHere, some_plan, plan_counted, items_fit, some_items, first_whether, starts_apart, meets_apart, ends_apart, composed}
-use borrow.Author.Rules.{rules}
 use Rattle.ruling.proofs.rules.rule_5.Goals as goal
+use Rattle.ruling.proofs.rules.rule_5.Goals.{then-not-same_lists-via-then-not-same_lists, then-not-same_lists-via-else-not-same_lists+then-not-same_lists-2, then-not-same_lists-via-else-not-same_lists+else-not-same_lists-2+then-not-same_conclusions}
 
-pub returns-then-one : goal.returns-then-one
-returns-then-one c = search first_whether
+pub returns-in_default : goal.returns-in_default
+returns-in_default c = search first_whether
 
-pub same_lists-meets-requires : goal.same_lists-meets-requires
-same_lists-meets-requires c = search (rules, YHere)
+pub same_lists-requires-else-not-same_lists-clause-list_here : goal.same_lists-requires-else-not-same_lists-clause-list_here
+same_lists-requires-else-not-same_lists-clause-list_here c = search YHere
+
+pub returns-then-not-same_lists : goal.returns-then-not-same_lists
+returns-then-not-same_lists c = elim c.then-not-same_lists.branch [ then-not-same_lists-via-then-not-same_lists w ↦ search starts_apart | then-not-same_lists-via-else-not-same_lists+then-not-same_lists-2 w ↦ search meets_apart | then-not-same_lists-via-else-not-same_lists+else-not-same_lists-2+then-not-same_conclusions w ↦ search ends_apart ]
 
 pub count_of-count-requires : goal.count_of-count-requires
 count_of-count-requires c = search plan_counted
@@ -15,11 +18,11 @@ count_of-count-requires c = search plan_counted
 pub count_of-more-requires : goal.count_of-more-requires
 count_of-more-requires c = search plan_counted
 
-pub overflow_add-a : goal.overflow_add-a
-overflow_add-a c = search items_fit
+pub overflow_add-first : goal.overflow_add-first
+overflow_add-first c = search items_fit
 
-pub overflow_add-g : goal.overflow_add-g
-overflow_add-g c = search items_fit
+pub overflow_add-second : goal.overflow_add-second
+overflow_add-second c = search items_fit
 
 pub joined_plans-requires-clause-some_plan : goal.joined_plans-requires-clause-some_plan
 joined_plans-requires-clause-some_plan c = search some_plan
@@ -30,14 +33,5 @@ joined_plans-requires-clause-some_items c = search some_items
 pub joined_plans-requires-clause-some_items_2 : goal.joined_plans-requires-clause-some_items_2
 joined_plans-requires-clause-some_items_2 c = search some_items
 
-pub returns-then-ends : goal.returns-then-ends
-returns-then-ends c = search composed
-
-pub returns-then-meets : goal.returns-then-meets
-returns-then-meets c = search ends_apart
-
-pub returns-then-starts : goal.returns-then-starts
-returns-then-starts c = search meets_apart
-
 pub returns : goal.returns
-returns c = search starts_apart
+returns c = search composed

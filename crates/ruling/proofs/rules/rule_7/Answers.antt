@@ -1,43 +1,40 @@
--- A plan of one item whose byte is no 255 is that action, which is within the limit; the byte of the conclusion is the fluent, and the marks are the
--- state of X. A list is no fluent.
-use Rattle.ruling.proofs.RuleLaws.{fluent_there, fluent_small, plan_counted, items_fit, item_there, action_small, look_lists, not_one_looked, look_branches, looks_elsewhere, looks_there}
+-- A plan of one item whose byte is no 255 is that action, which is within the limit; the marks are the state of X. A list is no fluent.
+use Rattle.ruling.proofs.RuleLaws.{fluent_small, plan_counted, items_fit, item_there, action_small, look_lists, not_one_looked, look_branches, looks_elsewhere, looks_there}
 use Rattle.ruling.proofs.rules.rule_7.Goals as goal
+use Rattle.ruling.proofs.rules.rule_7.Goals.{then-count_of-ne1-via-then-count_of-ne1, then-count_of-ne1-via-else-count_of-ne1+then-d-plan}
 
-pub count_of-count-requires : goal.count_of-count-requires
-count_of-count-requires c = search plan_counted
+pub returns-in_default : goal.returns-in_default
+returns-in_default c = search look_lists
 
-pub returns-then-count-ne1 : goal.returns-then-count-ne1
-returns-then-count-ne1 c = search not_one_looked
+pub count_of-requires : goal.count_of-requires
+count_of-requires c = search plan_counted
 
-pub overflow_add-first : goal.overflow_add-first
-overflow_add-first c = search items_fit
+pub overflow_add-plan : goal.overflow_add-plan
+overflow_add-plan c = search items_fit
 
-pub bounds-d-first : goal.bounds-d-first
-bounds-d-first c = search item_there
+pub bounds-d-plan : goal.bounds-d-plan
+bounds-d-plan c = search item_there
 
-pub returns-then-d-first : goal.returns-then-d-first
-returns-then-d-first c = search look_branches
+pub returns-then-count_of-ne1 : goal.returns-then-count_of-ne1
+returns-then-count_of-ne1 c = elim c.then-count_of-ne1.branch [ then-count_of-ne1-via-then-count_of-ne1 w ↦ search not_one_looked | then-count_of-ne1-via-else-count_of-ne1+then-d-plan w ↦ search look_branches ]
 
-pub bounds-d-first-then-l : goal.bounds-d-first-then-l
-bounds-d-first-then-l c = search item_there
+pub overflow_add-plan-2 : goal.overflow_add-plan-2
+overflow_add-plan-2 c = search items_fit
 
-pub bounds-d-y : goal.bounds-d-y
-bounds-d-y c = search fluent_there
+pub bounds-d-plan-2 : goal.bounds-d-plan-2
+bounds-d-plan-2 c = search item_there
 
-pub looks_at-looks-requires-clause-a_lt_actions : goal.looks_at-looks-requires-clause-a_lt_actions
-looks_at-looks-requires-clause-a_lt_actions c = search action_small
+pub looks_at-requires-clause-a_lt_actions : goal.looks_at-requires-clause-a_lt_actions
+looks_at-requires-clause-a_lt_actions c = search action_small
 
-pub looks_at-looks-requires-clause-f_lt_fluents : goal.looks_at-looks-requires-clause-f_lt_fluents
-looks_at-looks-requires-clause-f_lt_fluents c = search fluent_small
+pub looks_at-requires-clause-f_lt_fluents : goal.looks_at-requires-clause-f_lt_fluents
+looks_at-requires-clause-f_lt_fluents c = search fluent_small
 
-pub can_be_run-requires-clause-a_lt_actions : goal.can_be_run-requires-clause-a_lt_actions
-can_be_run-requires-clause-a_lt_actions c = search action_small
+pub can_be_run-requires : goal.can_be_run-requires
+can_be_run-requires c = search action_small
 
-pub returns-then-looks : goal.returns-then-looks
-returns-then-looks c = search looks_there
+pub returns-then-looks_at : goal.returns-then-looks_at
+returns-then-looks_at c = search looks_there
 
-pub returns-then-l : goal.returns-then-l
-returns-then-l c = search looks_elsewhere
-
-pub returns : goal.returns
-returns c = search look_lists
+pub returns-else-looks_at : goal.returns-else-looks_at
+returns-else-looks_at c = rw c.if-looks_at.false (search looks_elsewhere)

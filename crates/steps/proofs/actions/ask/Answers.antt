@@ -10,14 +10,14 @@ loop-k-init c = search running_starts
 pub line_place-p-requires-clause-k_lt_line_numbers : goal.line_place-p-requires-clause-k_lt_line_numbers
 line_place-p-requires-clause-k_lt_line_numbers c = search line_few
 
-pub overflow_add-body : goal.overflow_add-body
-overflow_add-body c = search run_body_fits
+pub overflow_add-p : goal.overflow_add-p
+overflow_add-p c = search run_body_fits
 
-pub each_holds-known-requires : goal.each_holds-known-requires
-each_holds-known-requires c = search run_body
+pub each_holds-requires : goal.each_holds-requires
+each_holds-requires c = search run_body
 
-pub returns-then-known : goal.returns-then-known
-returns-then-known c = search run_met
+pub returns-then-each_holds : goal.returns-then-each_holds
+returns-then-each_holds c = search run_met
 
 pub next_line-k-requires-clause-k_lt_line_numbers : goal.next_line-k-requires-clause-k_lt_line_numbers
 next_line-k-requires-clause-k_lt_line_numbers c = search line_few

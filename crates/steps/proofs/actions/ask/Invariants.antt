@@ -5,7 +5,7 @@ use Rattle.steps.proofs.ActionLaws.{Running}
 use Rattle.steps.proofs.actions.ask.Given as goal
 
 abbrev pub invariant-loop-k : goal.invariant-loop-k
-invariant-loop-k l = Running l.s l.t l.a l.marks l.k
+invariant-loop-k l = Running l.r.bytes.now l.r.notes.now l.a l.marks l.k
 
 abbrev pub decreases-loop-k : goal.decreases-loop-k
 decreases-loop-k l = to_go l.k

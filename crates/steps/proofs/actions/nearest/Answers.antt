@@ -4,6 +4,7 @@ use Rattle.finding.proofs.AheadLaws.{line_few, line_less}
 use Rattle.steps.proofs.ActionLaws.{never_near, first_few, first_body, first_body_fits, nearing_starts, nearing_done, near_body_fits, near_body, near_fewer, near_kept}
 use borrow.Author.Rules.{rules}
 use Rattle.steps.proofs.actions.nearest.Goals as goal
+use Rattle.steps.proofs.actions.nearest.Goals.{then-short-fewest, else-short-fewest}
 
 pub returns-then-first-eq0 : goal.returns-then-first-eq0
 returns-then-first-eq0 c = search never_near
@@ -26,8 +27,8 @@ loop-k-init c = search nearing_starts
 pub line_place-p-requires-clause-k_lt_line_numbers : goal.line_place-p-requires-clause-k_lt_line_numbers
 line_place-p-requires-clause-k_lt_line_numbers c = search line_few
 
-pub overflow_add-body : goal.overflow_add-body
-overflow_add-body c = search near_body_fits
+pub overflow_add-p : goal.overflow_add-p
+overflow_add-p c = search near_body_fits
 
 pub short_by-short-requires : goal.short_by-short-requires
 short_by-short-requires c = search near_body
@@ -35,17 +36,14 @@ short_by-short-requires c = search near_body
 pub next_line-k-requires-in-loop-k : goal.next_line-k-requires-in-loop-k
 next_line-k-requires-in-loop-k c = record { lines_le_run_lines = search rules; k_lt_line_numbers = search line_few }
 
-pub loop-k-smaller-then-short-fewest : goal.loop-k-smaller-then-short-fewest
-loop-k-smaller-then-short-fewest c = search line_less
-
-pub loop-k-preserved-then-short-fewest : goal.loop-k-preserved-then-short-fewest
-loop-k-preserved-then-short-fewest c = search near_fewer
-
 pub loop-k-smaller : goal.loop-k-smaller
 loop-k-smaller c = search line_less
 
 pub loop-k-preserved : goal.loop-k-preserved
-loop-k-preserved c = search near_kept
+loop-k-preserved c = elim c.if-short-fewest.branch [
+  | then-short-fewest w ↦ rw (w.best-is, w.fewest-is) (search near_fewer)
+  | else-short-fewest w ↦ rw (w.best-is, w.fewest-is) (search near_kept)
+]
 
 pub returns : goal.returns
 returns c = search nearing_done

@@ -5,7 +5,7 @@ use Rattle.steps.proofs.ActionLaws.{Nearing}
 use Rattle.steps.proofs.actions.nearest.Given as goal
 
 abbrev pub invariant-loop-k : goal.invariant-loop-k
-invariant-loop-k l = Nearing l.s l.t l.a l.marks l.best l.fewest l.k
+invariant-loop-k l = Nearing l.r.bytes.now l.r.notes.now l.a l.marks l.best l.fewest l.k
 
 abbrev pub decreases-loop-k : goal.decreases-loop-k
 decreases-loop-k l = to_go l.k

@@ -15,11 +15,11 @@ line_place-p-requires-clause-k_lt_line_numbers c = search line_few
 pub next_line-k-requires-clause-k_lt_line_numbers : goal.next_line-k-requires-clause-k_lt_line_numbers
 next_line-k-requires-clause-k_lt_line_numbers c = search line_few
 
-pub overflow_add-one : goal.overflow_add-one
-overflow_add-one c = search effect_one_fits
+pub overflow_add-p : goal.overflow_add-p
+overflow_add-p c = search effect_one_fits
 
-pub bounds-s-one : goal.bounds-s-one
-bounds-s-one c = search effect_one_there
+pub bounds-r-p : goal.bounds-r-p
+bounds-r-p c = search effect_one_there
 
 pub bounds-next-f : goal.bounds-next-f
 bounds-next-f c = search effect_fluent
@@ -30,29 +30,32 @@ loop-k-smaller-then-next-f c = search line_less
 pub loop-k-preserved-then-next-f : goal.loop-k-preserved-then-next-f
 loop-k-preserved-then-next-f c = sweep_known _ _ _ _ _ _ c.loop-k.invariant c.loop-k-test.true _ _ c.line_place-p.ensures c.next_line-k.ensures _ _ c.wide-l.ensures c.mark_of-mark.ensures c.if-next-f.true
 
-pub overflow_add-body : goal.overflow_add-body
-overflow_add-body c = search effect_body_fits
+pub overflow_add-p-then-next-f-eq0 : goal.overflow_add-p-then-next-f-eq0
+overflow_add-p-then-next-f-eq0 c = search effect_body_fits
 
 pub bounds-next-f-in-loop-k : goal.bounds-next-f-in-loop-k
 bounds-next-f-in-loop-k c = search effect_fluent
 
-pub each_holds-known-requires : goal.each_holds-known-requires
-each_holds-known-requires c = search effect_body
+pub each_holds-requires : goal.each_holds-requires
+each_holds-requires c = search effect_body
 
-pub bounds-next-f-then-known : goal.bounds-next-f-then-known
-bounds-next-f-then-known c = search effect_fluent
+pub bounds-next-f-then-each_holds : goal.bounds-next-f-then-each_holds
+bounds-next-f-then-each_holds c = search effect_fluent
 
-pub loop-k-smaller-then-known : goal.loop-k-smaller-then-known
-loop-k-smaller-then-known c = search line_less
+pub loop-k-smaller-then-each_holds : goal.loop-k-smaller-then-each_holds
+loop-k-smaller-then-each_holds c = search line_less
 
-pub loop-k-preserved-then-known : goal.loop-k-preserved-then-known
-loop-k-preserved-then-known c = sweep_told _ _ _ _ _ _ c.loop-k.invariant c.loop-k-test.true _ _ c.line_place-p.ensures c.next_line-k.ensures _ _ c.wide-l.ensures c.mark_of-mark.ensures c.if-next-f.false _ c.each_holds-known.ensures c.if-known.true
+pub loop-k-preserved-then-each_holds : goal.loop-k-preserved-then-each_holds
+loop-k-preserved-then-each_holds c = sweep_told _ _ _ _ _ _ c.loop-k.invariant c.loop-k-test.true _ _ c.line_place-p.ensures c.next_line-k.ensures _ _ c.wide-l.ensures c.mark_of-mark.ensures c.if-next-f.false _ c.each_holds.ensures c.if-each_holds.true
 
-pub loop-k-smaller-else-known : goal.loop-k-smaller-else-known
-loop-k-smaller-else-known c = search line_less
+pub loop-k-smaller-else-each_holds : goal.loop-k-smaller-else-each_holds
+loop-k-smaller-else-each_holds c = search line_less
 
-pub loop-k-preserved-else-known : goal.loop-k-preserved-else-known
-loop-k-preserved-else-known c = sweep_unknown _ _ _ _ _ _ c.loop-k.invariant c.loop-k-test.true _ _ c.line_place-p.ensures c.next_line-k.ensures _ _ c.wide-l.ensures c.mark_of-mark.ensures c.if-next-f.false _ c.each_holds-known.ensures c.if-known.false (omega arith)
+pub loop-k-preserved-else-each_holds : goal.loop-k-preserved-else-each_holds
+loop-k-preserved-else-each_holds c = sweep_unknown _ _ _ _ _ _ c.loop-k.invariant c.loop-k-test.true _ _ c.line_place-p.ensures c.next_line-k.ensures _ _ c.wide-l.ensures c.mark_of-mark.ensures c.if-next-f.false _ c.each_holds.ensures c.if-each_holds.false (omega arith)
+
+pub overflow_add-p-else-next-f-eq0 : goal.overflow_add-p-else-next-f-eq0
+overflow_add-p-else-next-f-eq0 c = search effect_body_fits
 
 pub look_at-requires : goal.look_at-requires
 look_at-requires c = search effect_body

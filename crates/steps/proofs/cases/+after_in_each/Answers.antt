@@ -7,13 +7,13 @@ pub bounds-state-f : goal.bounds-state-f
 bounds-state-f t c = search fluent_held
 
 pub after_in_each-one-requires : goal.after_in_each-one-requires
-after_in_each-one-requires t c = (search left_falls, (search rules, (search rules, (first_filling _ _ _ c.requires.filling _ c.wide.ensures c.if-i-wide.true _ c.wide-f.ensures, first_can _ _ _ c.requires.filling _ c.wide.ensures c.if-i-wide.true _ c.wide-f.ensures _ _ c.requires.marks_value))))
+after_in_each-one-requires t c = (search left_falls, (search rules, (first_filling _ _ _ c.requires.filling _ c.wide.ensures c.if-i-wide.true _ c.wide-f.ensures, first_can _ _ _ c.requires.filling _ c.wide.ensures c.if-i-wide.true _ c.wide-f.ensures _ _ c.requires.marks_value)))
 
 pub bounds-state-f-then-i-wide : goal.bounds-state-f-then-i-wide
 bounds-state-f-then-i-wide t c = search fluent_held
 
 pub after_in_each-other-requires : goal.after_in_each-other-requires
-after_in_each-other-requires t c = (search left_falls, (search rules, (search rules, (second_filling _ _ _ c.requires.filling _ c.wide.ensures c.if-i-wide.true _ c.wide-f.ensures, second_can _ _ _ c.requires.filling _ c.wide.ensures c.if-i-wide.true _ c.wide-f.ensures _ _ c.requires.marks_value))))
+after_in_each-other-requires t c = (search left_falls, (search rules, (second_filling _ _ _ c.requires.filling _ c.wide.ensures c.if-i-wide.true _ c.wide-f.ensures, second_can _ _ _ c.requires.filling _ c.wide.ensures c.if-i-wide.true _ c.wide-f.ensures _ _ c.requires.marks_value)))
 
 pub shared-requires-clause-marked : goal.shared-requires-clause-marked
 shared-requires-clause-marked t c = one_marked _ _ _ c.requires.filling _ c.wide.ensures c.if-i-wide.true _ c.wide-f.ensures _ _ _ _ c.after_in_each-one.ensures

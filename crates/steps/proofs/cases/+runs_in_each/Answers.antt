@@ -6,20 +6,20 @@ use Rattle.steps.proofs.cases.+runs_in_each.Goals as goal
 pub bounds-state-f : goal.bounds-state-f
 bounds-state-f t c = search fluent_held
 
-pub runs_in_each-first-requires : goal.runs_in_each-first-requires
-runs_in_each-first-requires t c = (search left_falls, (search rules, (search rules, first_filling _ _ _ c.requires.filling _ c.wide.ensures c.if-i-wide.true _ c.wide-f.ensures)))
-
-pub bounds-state-f-then-first : goal.bounds-state-f-then-first
-bounds-state-f-then-first t c = search fluent_held
-
 pub runs_in_each-requires : goal.runs_in_each-requires
-runs_in_each-requires t c = (search left_falls, (search rules, (search rules, second_filling _ _ _ c.requires.filling _ c.wide.ensures c.if-i-wide.true _ c.wide-f.ensures)))
+runs_in_each-requires t c = (search left_falls, (search rules, first_filling _ _ _ c.requires.filling _ c.wide.ensures c.if-i-wide.true _ c.wide-f.ensures))
 
-pub returns-then-first : goal.returns-then-first
-returns-then-first t c = search runs_both
+pub bounds-state-f-then-i-wide : goal.bounds-state-f-then-i-wide
+bounds-state-f-then-i-wide t c = search fluent_held
+
+pub runs_in_each-requires-then-i-wide : goal.runs_in_each-requires-then-i-wide
+runs_in_each-requires-then-i-wide t c = (search left_falls, (search rules, second_filling _ _ _ c.requires.filling _ c.wide.ensures c.if-i-wide.true _ c.wide-f.ensures))
+
+pub returns-then-not-runs_in_each : goal.returns-then-not-runs_in_each
+returns-then-not-runs_in_each t c = search runs_not
 
 pub returns-then-i-wide : goal.returns-then-i-wide
-returns-then-i-wide t c = search runs_not
+returns-then-i-wide t c = search runs_both
 
 pub returns : goal.returns
 returns t c = search runs_last

@@ -1,11 +1,6 @@
 -- Up to fluent f the marks are shared ones, from there on those of the one state. A turn leaves a mark that both states have, and forgets one that they have not.
-use Prim.Native.Nat.{◌-◌}
-use Rattle.meaning.specs.Limits.{format}
 use Rattle.steps.proofs.CaseLaws.{Sharing}
 use Rattle.steps.proofs.cases.shared.Given as goal
 
 abbrev pub invariant-loop-f : goal.invariant-loop-f
 invariant-loop-f l = Sharing l.one l.other l.both l.f
-
-abbrev pub decreases-loop-f : goal.decreases-loop-f
-decreases-loop-f l = format.fluents - l.f

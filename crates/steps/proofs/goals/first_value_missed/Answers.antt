@@ -1,38 +1,41 @@
 -- Each literal that is known true leaves the first miss among those behind it.
-use Rattle.valuing.proofs.TwosLaws.{count_there, first_fits, second_there, literal_there, second_fits, next_fits, literal_near, literal_second}
-use Rattle.steps.proofs.MissLaws.{values_start, values_place, values_over, values_on, values_here}
+use Rattle.valuing.proofs.TwosLaws.{count_there, first_fits}
+use Rattle.steps.proofs.MissLaws.{values_start, values_over, values_on, values_here, number_fits, literal_fits, second_byte_fits, literal_inside, second_inside, value_near, value_second}
 use borrow.Author.Rules.{rules}
 use Rattle.steps.proofs.goals.first_value_missed.Goals as goal
 
 pub bounds-s-p : goal.bounds-s-p
 bounds-s-p c = search count_there
 
+pub loop-k-init : goal.loop-k-init
+loop-k-init c = search values_start
+
 pub overflow_add-at : goal.overflow_add-at
 overflow_add-at c = search first_fits
 
-pub loop-left-init : goal.loop-left-init
-loop-left-init c = search values_start
+pub overflow_mul-at : goal.overflow_mul-at
+overflow_mul-at c = search number_fits
 
-pub overflow_add-second : goal.overflow_add-second
-overflow_add-second c = search (second_fits, values_place)
+pub overflow_add-at-in-loop-k : goal.overflow_add-at-in-loop-k
+overflow_add-at-in-loop-k c = search literal_fits
+
+pub overflow_add-at-in-loop-k-2 : goal.overflow_add-at-in-loop-k-2
+overflow_add-at-in-loop-k-2 c = search second_byte_fits
 
 pub bounds-s-at : goal.bounds-s-at
-bounds-s-at c = search (literal_there, values_place)
+bounds-s-at c = search literal_inside
 
-pub bounds-s-second : goal.bounds-s-second
-bounds-s-second c = search (second_there, values_place)
+pub bounds-s-at-in-loop-k : goal.bounds-s-at-in-loop-k
+bounds-s-at-in-loop-k c = search second_inside
 
-pub known-good-requires : goal.known-good-requires
-known-good-requires c = search (rules, literal_near, literal_second, values_place)
+pub known-requires : goal.known-requires
+known-requires c = search (rules, value_near, value_second)
 
-pub overflow_add-at-then-good : goal.overflow_add-at-then-good
-overflow_add-at-then-good c = search (next_fits, values_place)
+pub loop-k-preserved : goal.loop-k-preserved
+loop-k-preserved c = search values_on
 
-pub loop-left-preserved : goal.loop-left-preserved
-loop-left-preserved c = search values_on
-
-pub returns-in-loop-left : goal.returns-in-loop-left
-returns-in-loop-left c = search values_here
+pub returns-then-not-known : goal.returns-then-not-known
+returns-then-not-known c = search values_here
 
 pub returns : goal.returns
 returns c = search values_over

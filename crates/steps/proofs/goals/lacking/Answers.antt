@@ -4,10 +4,10 @@ use borrow.Author.Rules.{rules}
 use Rattle.steps.proofs.goals.lacking.Goals as goal
 
 pub returns-then-guards-eq0 : goal.returns-then-guards-eq0
-returns-then-guards-eq0 c = search none_lacked
+returns-then-guards-eq0 g c = search none_lacked
 
 pub first_missed-requires : goal.first_missed-requires
-first_missed-requires c = search (rules, guards_there)
+first_missed-requires g c = search (rules, guards_there)
 
 pub returns : goal.returns
-returns c = search first_lacked
+returns g c = search first_lacked

@@ -4,16 +4,16 @@ use borrow.Author.Rules.{rules}
 use Rattle.steps.proofs.goals.missed.Goals as goal
 
 pub goal_missed-requires : goal.goal_missed-requires
-goal_missed-requires c = search (rules, goals_there)
+goal_missed-requires g c = search (rules, goals_there)
 
-pub sequence_of-whether-requires : goal.sequence_of-whether-requires
-sequence_of-whether-requires c = search goals_there
+pub sequence_of-requires : goal.sequence_of-requires
+sequence_of-requires g c = rw c.FORM.ensures (search goals_there)
 
 pub first_missed-requires : goal.first_missed-requires
-first_missed-requires c = search whether_there
+first_missed-requires g c = let place = rw c.FORM.ensures at c.sequence_of.ensures in search whether_there
 
-pub returns-in-At : goal.returns-in-At
-returns-in-At c = search goal_missed
+pub returns-in-Some : goal.returns-in-Some
+returns-in-Some g c = search goal_missed
 
-pub returns-in-Nowhere : goal.returns-in-Nowhere
-returns-in-Nowhere c = search whether_missed
+pub returns-in-None : goal.returns-in-None
+returns-in-None g c = let place = rw c.FORM.ensures at c.sequence_of.ensures in search whether_missed

@@ -3,7 +3,7 @@ use Rattle.steps.proofs.OnwardLaws.{Goes}
 use Rattle.steps.proofs.onward.follow.Given as goal
 
 abbrev pub invariant-loop-at : goal.invariant-loop-at
-invariant-loop-at l = Goes l.s l.t l.i l.at
+invariant-loop-at g l = Goes l.r.bytes.now l.r.notes.now l.i l.at
 
 abbrev pub decreases-loop-at : goal.decreases-loop-at
-decreases-loop-at l = l.at
+decreases-loop-at g l = l.at

@@ -2,8 +2,8 @@
 use Rattle.steps.proofs.OnwardLaws.{into_empty, into_item}
 use Rattle.steps.proofs.onward.into.Goals as goal
 
-pub returns-then-none : goal.returns-then-none
-returns-then-none c = search into_empty
+pub returns-then-empty : goal.returns-then-empty
+returns-then-empty g c = let place = rw c.FORM.ensures at c.sequence_of.ensures in search into_empty
 
-pub returns : goal.returns
-returns c = search into_item
+pub returns-else-empty : goal.returns-else-empty
+returns-else-empty g c = let place = rw c.FORM.ensures at c.sequence_of.ensures in search into_item

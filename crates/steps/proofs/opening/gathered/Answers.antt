@@ -1,18 +1,19 @@
 -- The fluents below f that have a flag are held, and those from f up are to come; f rises to the limit.
 use Rattle.steps.proofs.OpenedLaws.{gathering_starts, gather_kept, gather_more, gather_over, gather_done}
 use Rattle.steps.proofs.opening.gathered.Goals as goal
+use Rattle.steps.proofs.opening.gathered.Goals.{then-flags-f-eq1+else-k-gt-OPEN, else-flags-f-eq1, else-loop-f-test, then-loop-f-test+then-flags-f-eq1+then-k-gt-OPEN}
 
 pub loop-f-init : goal.loop-f-init
 loop-f-init c = search gathering_starts
 
-pub returns-then-k-gt-OPEN : goal.returns-then-k-gt-OPEN
-returns-then-k-gt-OPEN c = search gather_over
-
-pub loop-f-preserved-then-flags-next-eq1 : goal.loop-f-preserved-then-flags-next-eq1
-loop-f-preserved-then-flags-next-eq1 c = search gather_more
-
 pub loop-f-preserved : goal.loop-f-preserved
-loop-f-preserved c = search gather_kept
+loop-f-preserved c = elim c.if-flags-f-eq1.branch [
+  | then-flags-f-eq1+else-k-gt-OPEN w ↦ rw (w.held-is, w.k-is) (search gather_more)
+  | else-flags-f-eq1 w ↦ rw (w.held-is, w.k-is) (search gather_kept)
+]
 
 pub returns : goal.returns
-returns c = search gather_done
+returns c = elim c.loop-f-test.branch [
+  | else-loop-f-test w ↦ rw w.k-is (search gather_done)
+  | then-loop-f-test+then-flags-f-eq1+then-k-gt-OPEN w ↦ rw w.k-is (search gather_over)
+]

@@ -3,4 +3,4 @@ use Rattle.steps.proofs.LookAs.{sensing_is}
 use Rattle.steps.proofs.sensing.is_sensing.Goals as goal
 
 pub returns : goal.returns
-returns c = search sensing_is
+returns g c = search sensing_is

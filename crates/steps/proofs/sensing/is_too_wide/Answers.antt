@@ -11,8 +11,8 @@ returns-then-met-eq-FORKED c = search counted_wide
 pub overflow_add-met : goal.overflow_add-met
 overflow_add-met c = search next_met_fits
 
-pub overflow_add-above : goal.overflow_add-above
-overflow_add-above c = search next_fluent_fits
+pub overflow_add-f : goal.overflow_add-f
+overflow_add-f c = search next_fluent_fits
 
 pub loop-f-preserved : goal.loop-f-preserved
 loop-f-preserved c = search counting_next

@@ -7,7 +7,7 @@ use Rattle.meaning.specs.declared.Form.TheVariants.{Flags}
 use Rattle.steps.proofs.sensing.is_too_wide.Given as goal
 
 abbrev pub invariant-loop-f : goal.invariant-loop-f
-invariant-loop-f l = Counting (table_in Flags l.s) l.a l.marks l.met l.f
+invariant-loop-f l = Counting (table_in Flags l.r.bytes.now) l.a l.marks l.met l.f
 
 abbrev pub decreases-loop-f : goal.decreases-loop-f
 decreases-loop-f l = most_forked - l.met

@@ -2,8 +2,8 @@
 use Rattle.steps.proofs.TriedLaws.{refused_narrow, refused_many}
 use Rattle.steps.proofs.trying.refused.Goals as goal
 
-pub returns-then-mode-eq-NARROW : goal.returns-then-mode-eq-NARROW
-returns-then-mode-eq-NARROW c = search refused_narrow
+pub returns-in-Narrow : goal.returns-in-Narrow
+returns-in-Narrow c = search refused_narrow
 
-pub returns : goal.returns
-returns c = search refused_many
+pub returns-in_default : goal.returns-in_default
+returns-in_default c = search refused_many

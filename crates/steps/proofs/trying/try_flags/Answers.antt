@@ -2,14 +2,14 @@
 use Rattle.steps.proofs.TriedLaws.{known_tried, known_stuck, narrow_tried, cases_tried}
 use Rattle.steps.proofs.trying.try_flags.Goals as goal
 
-pub returns-then-runs : goal.returns-then-runs
-returns-then-runs c = search known_tried
+pub returns-then-can_be_run : goal.returns-then-can_be_run
+returns-then-can_be_run c = search known_tried
 
-pub returns-then-mode-eq0 : goal.returns-then-mode-eq0
-returns-then-mode-eq0 c = search known_stuck
+pub returns-else-can_be_run : goal.returns-else-can_be_run
+returns-else-can_be_run c = search known_stuck
 
-pub returns-then-mode-eq-NARROW : goal.returns-then-mode-eq-NARROW
-returns-then-mode-eq-NARROW c = search narrow_tried
+pub returns-in-Narrow : goal.returns-in-Narrow
+returns-in-Narrow c = search narrow_tried
 
-pub returns : goal.returns
-returns c = search cases_tried
+pub returns-in_default : goal.returns-in_default
+returns-in_default c = search cases_tried

@@ -1,35 +1,25 @@
 -- The sets are what the literals so far leave, and those with the literals that are left say what all of them say.
-use borrow.Author.Rules.{rules}
+use Rattle.valuing.proofs.PairsLaws.{pairs_start, pairs_whole, pairs_on, pairs_over, pair_turn, pair_near, pair_second}
 use Rattle.valuing.proofs.LeftLaws.{allowed_starts, allowed_on, allowed_over}
-use Rattle.valuing.proofs.TwosLaws.{count_there, first_fits, literal_there, second_there, second_fits, next_fits, literal_near, literal_second}
 use Rattle.valuing.proofs.sets.allowed_by.Goals as goal
 
-pub bounds-s-p : goal.bounds-s-p
-bounds-s-p c = search count_there
-
-pub overflow_add-at : goal.overflow_add-at
-overflow_add-at c = search first_fits
-
-pub loop-left-init : goal.loop-left-init
-loop-left-init c = search allowed_starts
-
-pub overflow_add-second : goal.overflow_add-second
-overflow_add-second c = search second_fits
-
-pub bounds-s-at : goal.bounds-s-at
-bounds-s-at c = search literal_there
-
-pub bounds-s-second : goal.bounds-s-second
-bounds-s-second c = search second_there
-
-pub overflow_add-at-in-loop-left : goal.overflow_add-at-in-loop-left
-overflow_add-at-in-loop-left c = search next_fits
+pub loop-pair-init : goal.loop-pair-init
+loop-pair-init c =
+    let whole = pairs_whole _ _ _ c.listed_in_twos.ensures.entries _ _ c.into_iter-pair-iterator.ensures.into_iter_gives c.chunks_exact-pair-items.ensures.rest in
+    record { pairs = search pairs_start; narrow = search allowed_starts }
 
 pub narrow-requires : goal.narrow-requires
-narrow-requires c = search (rules, literal_near, literal_second)
+narrow-requires c =
+    record { l_bound = pair_near _ _ _ _ c.loop-pair.invariant.pairs _ _ _ c.in-Some.ensures.steps _ c.two.ensures c.requires; l_bound_2 = pair_second _ _ _ _ c.loop-pair.invariant.pairs _ _ _ c.in-Some.ensures.steps _ c.two.ensures c.requires }
 
-pub loop-left-preserved : goal.loop-left-preserved
-loop-left-preserved c = search allowed_on
+pub loop-pair-preserved : goal.loop-pair-preserved
+loop-pair-preserved c =
+    let turn = pair_turn _ _ _ _ c.loop-pair.invariant.pairs _ _ _ c.in-Some.ensures.steps _ c.two.ensures in
+    let near = pair_near _ _ _ _ c.loop-pair.invariant.pairs _ _ _ c.in-Some.ensures.steps _ c.two.ensures c.requires in
+    let second = pair_second _ _ _ _ c.loop-pair.invariant.pairs _ _ _ c.in-Some.ensures.steps _ c.two.ensures c.requires in
+    record { pairs = pairs_on _ _ _ _ c.loop-pair.invariant.pairs _ _ _ c.in-Some.ensures.steps _ c.two.ensures; narrow = search allowed_on }
 
 pub returns : goal.returns
-returns c = search allowed_over
+returns c =
+    let none = pairs_over _ _ _ _ c.loop-pair.invariant.pairs c.in-None.ensures.steps in
+    search allowed_over

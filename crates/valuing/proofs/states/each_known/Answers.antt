@@ -1,38 +1,31 @@
 -- What the literals that are left say is what all of them say.
-use borrow.Author.Rules.{rules}
-use Rattle.valuing.proofs.ValuedMarks.{each_starts, each_over, each_on, each_fails}
-use Rattle.valuing.proofs.TwosLaws.{count_there, first_fits, literal_there, second_there, second_fits, next_fits, literal_near, literal_second}
+use mathlib.Core.Path.{sym, ap}
+use Rattle.meaning.specs.Tests.{each_of}
+use Rattle.valuing.proofs.PairsLaws.{pairs_start, pairs_whole, pairs_on, pairs_over, pair_turn, pair_near, pair_second}
+use Rattle.valuing.proofs.ValuedMarks.{each_over, each_on, each_fails}
 use Rattle.valuing.proofs.states.each_known.Goals as goal
 
-pub bounds-s-p : goal.bounds-s-p
-bounds-s-p c = search count_there
+pub loop-pair-init : goal.loop-pair-init
+loop-pair-init c =
+    record {
+      pairs = search pairs_start;
+      same = ap (each_of _) (sym (pairs_whole _ _ _ c.listed_in_twos.ensures.entries _ _ c.into_iter-pair-iterator.ensures.into_iter_gives c.chunks_exact-pair-items.ensures.rest));
+    }
 
-pub overflow_add-at : goal.overflow_add-at
-overflow_add-at c = search first_fits
+pub known-requires-clause-l_bound : goal.known-requires-clause-l_bound
+known-requires-clause-l_bound c = pair_near _ _ _ _ c.loop-pair.invariant.pairs _ _ _ c.in-Some.ensures.steps _ c.two.ensures c.requires.values_here
 
-pub loop-left-init : goal.loop-left-init
-loop-left-init c = search each_starts
+pub known-requires-clause-l_bound_2 : goal.known-requires-clause-l_bound_2
+known-requires-clause-l_bound_2 c = pair_second _ _ _ _ c.loop-pair.invariant.pairs _ _ _ c.in-Some.ensures.steps _ c.two.ensures c.requires.values_here
 
-pub overflow_add-second : goal.overflow_add-second
-overflow_add-second c = search second_fits
+pub returns-then-not-known : goal.returns-then-not-known
+returns-then-not-known c =
+    let turn = pair_turn _ _ _ _ c.loop-pair.invariant.pairs _ _ _ c.in-Some.ensures.steps _ c.two.ensures in search each_fails
 
-pub bounds-s-at : goal.bounds-s-at
-bounds-s-at c = search literal_there
-
-pub bounds-s-second : goal.bounds-s-second
-bounds-s-second c = search second_there
-
-pub overflow_add-at-in-loop-left : goal.overflow_add-at-in-loop-left
-overflow_add-at-in-loop-left c = search next_fits
-
-pub known-good-requires : goal.known-good-requires
-known-good-requires c = search (rules, literal_near, literal_second)
-
-pub loop-left-preserved : goal.loop-left-preserved
-loop-left-preserved c = search each_on
-
-pub returns-in-loop-left : goal.returns-in-loop-left
-returns-in-loop-left c = search each_fails
+pub loop-pair-preserved : goal.loop-pair-preserved
+loop-pair-preserved c =
+    let turn = pair_turn _ _ _ _ c.loop-pair.invariant.pairs _ _ _ c.in-Some.ensures.steps _ c.two.ensures in
+    record { pairs = pairs_on _ _ _ _ c.loop-pair.invariant.pairs _ _ _ c.in-Some.ensures.steps _ c.two.ensures; same = search each_on }
 
 pub returns : goal.returns
-returns c = search each_over
+returns c = each_over _ _ _ c.loop-pair.invariant.same (pairs_over _ _ _ _ c.loop-pair.invariant.pairs c.in-None.ensures.steps)

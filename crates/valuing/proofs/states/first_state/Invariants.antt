@@ -1,13 +1,9 @@
 -- The marks below f are those of the first state, by the sets that the facts leave.
-use Rattle.valuing.proofs.FirstMarks.{MarksAhead}
-use Rattle.reading.specs.Listed.{twos_from}
-use Rattle.meaning.specs.Limits.{format}
+use Prim.Native.Nat.{◌+◌}
 use lib.ListN.{get_or}
-use Prim.Native.Nat.{◌+◌, ◌-◌}
+use Rattle.reading.specs.Listed.{twos_from}
+use Rattle.valuing.proofs.FirstMarks.{MarksAhead}
 use Rattle.valuing.proofs.states.first_state.Given as goal
 
 abbrev pub invariant-loop-f : goal.invariant-loop-f
-invariant-loop-f l = MarksAhead l.s (twos_from l.s (l.p + 1) (get_or l.s l.p 0)) l.marks l.f
-
-abbrev pub decreases-loop-f : goal.decreases-loop-f
-decreases-loop-f l = format.fluents - l.f
+invariant-loop-f l = MarksAhead l.s (twos_from l.s (l.p + 1) (get_or l.s l.p 0)) l.mark-items l.f

@@ -1,27 +1,24 @@
--- A spent budget, a walk without a miss, too many readings, too many cases, and all else that the tally may hold have a return each, and the definition tells the same.
-use Rattle.verdicts.proofs.TellingLaws.{tell_spent, tell_wide, tell_many, left_within, number_small, tell_fine, state_marked, tell_reported}
+-- Each way in which the walk went has an answer, and the definition tells the same.
+use Rattle.verdicts.proofs.TellingLaws.{tell_fine, tell_missed, tell_stuck, tell_broken, tell_wide, tell_many, tell_spent}
 use Rattle.verdicts.proofs.telling.tell.Goals as goal
 
-pub returns-then-number-eq-SPENT : goal.returns-then-number-eq-SPENT
-returns-then-number-eq-SPENT c = search tell_spent
+pub returns-in-Fine : goal.returns-in-Fine
+returns-in-Fine c = search tell_fine
 
-pub overflow_sub-count : goal.overflow_sub-count
-overflow_sub-count c = search left_within
+pub returns-in-Missed : goal.returns-in-Missed
+returns-in-Missed c = search tell_missed
 
-pub returns-then-number-eq0 : goal.returns-then-number-eq0
-returns-then-number-eq0 c = search tell_fine
+pub returns-in-Stuck : goal.returns-in-Stuck
+returns-in-Stuck c = search tell_stuck
 
-pub returns-then-number-eq-TOO_WIDE : goal.returns-then-number-eq-TOO_WIDE
-returns-then-number-eq-TOO_WIDE c = search tell_wide
+pub returns-in-Broken : goal.returns-in-Broken
+returns-in-Broken c = search tell_broken
 
-pub returns-then-number-eq-TOO_MANY : goal.returns-then-number-eq-TOO_MANY
-returns-then-number-eq-TOO_MANY c = search tell_many
+pub returns-in-TooWide : goal.returns-in-TooWide
+returns-in-TooWide c = search tell_wide
 
-pub byte_of-told-requires : goal.byte_of-told-requires
-byte_of-told-requires c = search number_small
+pub returns-in-TooMany : goal.returns-in-TooMany
+returns-in-TooMany c = search tell_many
 
-pub hand_over-requires-clause-byte_marks : goal.hand_over-requires-clause-byte_marks
-hand_over-requires-clause-byte_marks c = search state_marked
-
-pub returns : goal.returns
-returns c = search tell_reported
+pub returns-in-Spent : goal.returns-in-Spent
+returns-in-Spent c = search tell_spent

@@ -1,16 +1,17 @@
--- The facts of flags stand at place 2, and their state is the first; the form of the walk is that of the notes.
-use Rattle.steps.proofs.HandLaws.{facts_here}
-use Rattle.verdicts.proofs.WalkedLaws.{hand_in, flags_first, judged_in_form}
+-- The walk starts in the first state at the first item, and adds its whole to a tally that nothing was walked for; so what the tally tells is the
+-- walk within the budget.
+use Rattle.steps.proofs.FirstLaws.{starts_there}
+use Rattle.verdicts.proofs.WalkedLaws.{first_fits, plan_tallied, plan_judged}
 use Rattle.verdicts.proofs.walked.walk_plan.Goals as goal
 
-pub state_of-marks-requires : goal.state_of-marks-requires
-state_of-marks-requires c = search facts_here
+pub walk-requires-clause-position : goal.walk-requires-clause-position
+walk-requires-clause-position g c = search starts_there
 
-pub walk_from-requires-clause-at_hand : goal.walk_from-requires-clause-at_hand
-walk_from-requires-clause-at_hand c = search hand_in
+pub walk-requires-clause-marked_as : goal.walk-requires-clause-marked_as
+walk-requires-clause-marked_as g c = search first_fits
 
-pub walk_from-requires-clause-marks_value : goal.walk_from-requires-clause-marks_value
-walk_from-requires-clause-marks_value c = search flags_first
+pub tell-requires-clause-tallied : goal.tell-requires-clause-tallied
+tell-requires-clause-tallied g c = search plan_tallied
 
 pub returns : goal.returns
-returns c = search judged_in_form
+returns g c = search plan_judged

@@ -11,16 +11,16 @@ returns-then-progress-gt-LINES-clause-stands c = search lines_over
 pub put_known-plan-requires : goal.put_known-plan-requires
 put_known-plan-requires c = let near = progress_near _ c.requires.underway c.if-progress-gt-LINES.false in record { marked = c.requires.marked; q_bound = omega (arith, near) }
 
-pub overflow_add-concluded : goal.overflow_add-concluded
-overflow_add-concluded c = let near = progress_near _ c.requires.underway c.if-progress-gt-LINES.false in
+pub overflow_add-plan : goal.overflow_add-plan
+overflow_add-plan c = let near = progress_near _ c.requires.underway c.if-progress-gt-LINES.false in
     let plan = c.put_known-plan.ensures.within in
     record { fits = omega (arith, near, plan) }
 
 pub put_number-requires : goal.put_number-requires
 put_number-requires c = let near = progress_near _ c.requires.underway c.if-progress-gt-LINES.false in let plan = c.put_known-plan.ensures.within in record { k_bound = search rules; q_bound = omega (arith, near, plan) }
 
-pub put_uncited-end-requires : goal.put_uncited-end-requires
-put_uncited-end-requires c = let near = progress_near _ c.requires.underway c.if-progress-gt-LINES.false in let plan = c.put_known-plan.ensures.within in record { marked = c.requires.marked; q_bound = omega (arith, near, plan) }
+pub put_uncited-progress-requires : goal.put_uncited-progress-requires
+put_uncited-progress-requires c = let near = progress_near _ c.requires.underway c.if-progress-gt-LINES.false in let plan = c.put_known-plan.ensures.within in record { marked = c.requires.marked; q_bound = omega (arith, near, plan) }
 
 pub returns : goal.returns
-returns c = let first = c.put_known-plan.ensures in let last = c.put_uncited-end.ensures in let line = empty_line _ _ _ _ _ first.written first.after _ _ _ c.put_number.ensures last.written last.after in let one = first.within in let two = last.within in record { stands = line_added _ c.requires.underway c.if-progress-gt-LINES.false _ _ _ _ line.put line.ends; going = line_goes_on _ c.requires.underway c.if-progress-gt-LINES.false _ (omega (arith, one, two)) }
+returns c = let first = c.put_known-plan.ensures in let last = c.put_uncited-progress.ensures in let line = empty_line _ _ _ _ _ first.written first.after _ _ _ c.put_number.ensures last.written last.after in let one = first.within in let two = last.within in record { stands = line_added _ c.requires.underway c.if-progress-gt-LINES.false _ _ _ _ line.put line.ends; going = line_goes_on _ c.requires.underway c.if-progress-gt-LINES.false _ (omega (arith, one, two)) }

@@ -6,8 +6,8 @@ use Rattle.writing.proofs.rests.put_items.Goals as goal
 pub loop-i-init : goal.loop-i-init
 loop-i-init c = search items_start
 
-pub overflow_add-slot : goal.overflow_add-slot
-overflow_add-slot c = search slot_fits
+pub overflow_add-i : goal.overflow_add-i
+overflow_add-i c = search slot_fits
 
 pub get-start-requires : goal.get-start-requires
 get-start-requires c = search slot_there

@@ -5,7 +5,7 @@ use Rattle.writing.proofs.RestPutLaws.{ItemsPut}
 use Rattle.writing.proofs.rests.put_items.Given as goal
 
 abbrev pub invariant-loop-i : goal.invariant-loop-i
-invariant-loop-i l = ItemsPut l.s l.t l.initial.room l.at l.q l.room l.i l.p l.items
+invariant-loop-i l = ItemsPut l.r.bytes.now l.r.notes.now l.initial.room l.at l.q l.room l.i l.p l.items
 
 abbrev pub decreases-loop-i : goal.decreases-loop-i
 decreases-loop-i l = format.items - l.i

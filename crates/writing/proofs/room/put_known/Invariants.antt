@@ -1,11 +1,6 @@
--- A turn puts the literal of one fluent, if the state knows it; what is left then makes of the room what the whole makes of it. At the end the count goes before them.
-use Prim.Native.Nat.{◌-◌}
-use Rattle.meaning.specs.Limits.{format}
+-- A turn puts the literal of one fluent, if the state knows it; what is left then makes of the room what the whole makes of it.
 use Rattle.writing.proofs.RoomLaws.{Listing}
 use Rattle.writing.proofs.room.put_known.Given as goal
 
 abbrev pub invariant-loop-f : goal.invariant-loop-f
 invariant-loop-f l = Listing l.marks l.initial.room l.q l.room l.p l.count l.f
-
-abbrev pub decreases-loop-f : goal.decreases-loop-f
-decreases-loop-f l = format.fluents - l.f

@@ -1,9 +1,0 @@
--- Literals go by twice the number of fluents, and fluents by that number.
-use Rattle.parsing.proofs.ListLaws.{bound_literals, bound_fluents}
-use Rattle.parsing.proofs.lists.first_too_large.Goals as goal
-
-pub returns-in-Literals : goal.returns-in-Literals
-returns-in-Literals c = search bound_literals
-
-pub returns-in-Fluents : goal.returns-in-Fluents
-returns-in-Fluents c = search bound_fluents
