@@ -20,9 +20,10 @@ fn put_answer(rt: &impl Print, answer: Answer) -> io::Result<()> {
 }
 
 // What the call answers to the request and the derivation that these two arguments name.
-fn audit_files<R, F>(program: &Program<'_, R>, files: [usize; 2], call: F)
+fn audit_files<R, E, F>(program: &Program<'_, R, E>, files: [usize; 2], call: F)
 where
     R: Print + Env + Files,
+    E: Print,
     F: FnOnce(&[u8], &[u8]) -> Answer + Drop,
     requires { F.IsAlwaysCallable call }
 {

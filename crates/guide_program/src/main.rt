@@ -19,8 +19,8 @@ use verdicts::answers;
 
 // How the run ends. The budget is argument i, and the request's file is named by the one behind it, which is the last. Without enough stack there is no
 // start, which is said.
-fn guide_arguments<R: Print + io::Input + Env + Files>(
-    program: &Program<'_, R>,
+fn guide_arguments<R: Print + io::Input + Env + Files, E: Print>(
+    program: &Program<'_, R, E>,
     i: usize,
     prompts: bool,
 ) -> Option<Ending>

@@ -74,8 +74,8 @@ impl Call {
 
 // The answer, for 1, 2 and 43 the state, and where it is asked for the line. Without the index that the call takes, or enough stack, there is no
 // answer, which is said. The index is read once the request is.
-fn answer_to<R: Print + Files>(
-    program: &Program<'_, R>,
+fn answer_to<R: Print + Files, E: Print>(
+    program: &Program<'_, R, E>,
     call: Call,
     budget: u32,
     line_asked: bool,
@@ -106,7 +106,7 @@ fn answer_to<R: Print + Files>(
 }
 
 // The call that the argument so many from the end asks for.
-fn call_asked<R: Env>(program: &Program<'_, R>, from_end: usize) -> Call {
+fn call_asked<R: Env, E>(program: &Program<'_, R, E>, from_end: usize) -> Call {
     if program.option_asked(from_end, b"--guarded") {
         Call::Guarded
     } else if program.option_asked(from_end, b"--by-cases") {

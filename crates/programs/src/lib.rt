@@ -6,7 +6,7 @@
 mod descriptor; // the file that the script has open on descriptor 3
 pub mod words; // what the numbers say in words
 
-ghost use Rattle.std.specs.Prelude.{leb, ◌≡◌};
+ghost use Rattle.std.specs.Prelude.{◌<◌, leb, length, take, slice_index, IsErr, IsOkAnd, ◌≡◌};
 ghost use Rattle.std.specs.Io.{ReadsAtMost};
 ghost use Rattle.programs.specs.Stack.{needed};
 
@@ -14,6 +14,7 @@ use descriptor::open_answer;
 pub use descriptor::open_index;
 use meaning::Answer;
 use parsing::limits;
+use std::cell::{BorrowMutError, RefCell};
 use std::env::{Env, FillError};
 use std::fmt::Display;
 use std::fs::File;
@@ -81,25 +82,35 @@ pub fn read_all<R: Read>(input: &mut R, buf: &mut [u8]) -> io::Result<usize>
     Ok(done)
 }
 
-// A program as it runs: what it runs on, standard error, and its name, which lines on standard error begin with.
+// A program as it runs: what it runs on, where its errors go, and its name, which lines of errors begin with.
 #[derive(Drop)]
-pub struct Program<'a, R> {
+pub struct Program<'a, R, E> {
     pub rt: &'a R,
-    pub err: Stderr,
+    pub err: E,
     name: &'a str,
 }
 
-impl<'a> Program<'a, HostRuntime> {
-    pub fn new(rt: &'a HostRuntime, name: &'a str) -> Self {
-        Program {
-            rt,
-            err: rt.stderr(),
-            name,
-        }
+impl<'a> Program<'a, HostRuntime, Stderr> {
+    // The errors go to standard error.
+    pub fn new(rt: &'a HostRuntime, name: &'a str) -> Self
+        ensures { result.name.now ≡ name.now }
+    {
+        Program::on(rt, rt.stderr(), name)
     }
 }
 
-impl<R> Program<'_, R> {
+impl<'a, R, E> Program<'a, R, E> {
+    // A program on any runtime, whose errors go to anything that prints, or to a writer in `Written`.
+    pub fn on(rt: &'a R, err: E, name: &'a str) -> Self
+        ensures runtime { result.rt.now ≡ rt.now }
+        ensures errors { result.err ≡ err }
+        ensures named { result.name.now ≡ name.now }
+    {
+        Program { rt, err, name }
+    }
+}
+
+impl<R, E: Print> Program<'_, R, E> {
     // A line with the program's name before it.
     pub fn say<D: Display + Drop>(&self, text: D) -> io::Result<()> {
         let name = self.name;
@@ -130,7 +141,7 @@ impl<R> Program<'_, R> {
     }
 }
 
-impl<R: io::Input> Program<'_, R> {
+impl<R: io::Input, E: Print> Program<'_, R, E> {
     // Reads standard input as far as buf goes. Where it can't be read a line says why.
     pub fn read_input(&self, buf: &mut [u8]) -> io::Result<usize>
         ensures { ReadsAtMost result buf.new }
@@ -157,7 +168,7 @@ impl<R: io::Input> Program<'_, R> {
     }
 }
 
-impl<R: Files> Program<'_, R> {
+impl<R: Files, E: Print> Program<'_, R, E> {
     // Reads the file of this name as far as buf goes. Where it can't be read a line says why, with `said` before the name.
     pub fn read_file(&self, said: &str, name: &[u8], buf: &mut [u8]) -> io::Result<usize>
         ensures { ReadsAtMost result buf.new }
@@ -186,7 +197,7 @@ impl<R: Files> Program<'_, R> {
     }
 }
 
-impl<R: Env + Files> Program<'_, R> {
+impl<R: Env + Files, E: Print> Program<'_, R, E> {
     // Reads the file that the program's argument i names, as far as buf goes. Where it can't be read a line says why, with `said` before the
     // file's name, or, where that can't be had, with the program's.
     pub fn read_argument(&self, said: &str, i: usize, buf: &mut [u8]) -> io::Result<usize>
@@ -203,7 +214,7 @@ impl<R: Env + Files> Program<'_, R> {
     }
 }
 
-impl<R: Env> Program<'_, R> {
+impl<R: Env, E> Program<'_, R, E> {
     // How many words the program was started with, its own name among them.
     pub fn word_count(&self) -> usize {
         let mut text = [0u8; 1];
@@ -265,8 +276,8 @@ impl<R: Env> Program<'_, R> {
     }
 }
 
-impl<R: Print + Files> Program<'_, R> {
-    // Prints what a call has written to the start of a room, or for every answer but 0 the answer on standard error. Where the script asks for it, it is
+impl<R: Print + Files, E: Print> Program<'_, R, E> {
+    // Prints what a call has written to the start of a room, or for every answer but 0 the answer where errors go. Where the script asks for it, it is
     // told the answer as well, of which it makes the exit status.
     pub fn put_written(&self, answer: Answer, room: &[u8], told: bool) -> io::Result<()> {
         let numbers = Numbers(answer);
@@ -282,6 +293,37 @@ impl<R: Print + Files> Program<'_, R> {
             return tell(self.rt, numbers);
         }
         Ok(())
+    }
+}
+
+// A writer as a place for errors, which is written through a `&`.
+#[derive(Drop)]
+pub struct Written<W>(pub RefCell<W>);
+
+// The writer is in use only where a value that is printed writes to it itself.
+fn in_use(_: BorrowMutError) -> io::Error {
+    io::Error::from(ErrorKind::ResourceBusy)
+}
+
+impl<W: Write> Print for Written<W> {
+    fn print<D: Display + Drop>(&self, value: D) -> io::Result<()> {
+        let mut writer = self.0.try_borrow_mut().map_err(in_use)?;
+        write!(*writer, "{value}")
+    }
+
+    fn println<D: Display + Drop>(&self, value: D) -> io::Result<()> {
+        let mut writer = self.0.try_borrow_mut().map_err(in_use)?;
+        writeln!(*writer, "{value}")
+    }
+
+    fn write_all(&self, bytes: &[u8]) -> io::Result<()> {
+        let mut writer = self.0.try_borrow_mut().map_err(in_use)?;
+        writer.write_all(bytes)
+    }
+
+    fn write_some(&self, bytes: &[u8]) -> io::Result<usize> {
+        let mut writer = self.0.try_borrow_mut().map_err(in_use)?;
+        writer.write(bytes)
     }
 }
 
@@ -417,7 +459,10 @@ impl Display for Numbers {
 }
 
 // The marks of a request's fluents, at the start of a state. The first byte of a request that was walked is its fluent count.
-pub fn marks_left<'a>(request: &[u8], state: &'a [u8; limits::FLUENTS]) -> io::Result<&'a [u8]> {
+pub fn marks_left<'a>(request: &[u8], state: &'a [u8; limits::FLUENTS]) -> io::Result<&'a [u8]>
+    ensures marks { 0 < length request.now → IsOkAnd result (λ marks. marks.now ≡ take (slice_index request.now 0) state.now) }
+    ensures empty { length request.now ≡ 0 → IsErr result }
+{
     match request.first() {
         Some(fluents) => Ok(&state[..state.len().min(usize::from(*fluents))]),
         None => Err(io::Error::from(ErrorKind::InvalidData)),
