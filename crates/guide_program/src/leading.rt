@@ -100,8 +100,8 @@ pub fn lead<R: Print + io::Input, E: Print>(
 ) -> Option<Ending> {
     match run(program, guide, prompts) {
         Ok(ending) => return Some(ending),
-        Err(Failure::Input(error)) => program.fail("standard input", error),
-        Err(Failure::Output(error)) => program.fail("standard output", error),
+        Err(Failure::Input(error)) => program.fail(b"standard input", error),
+        Err(Failure::Output(error)) => program.fail(b"standard output", error),
         Err(Failure::Unsaid) => {}
     }
     None

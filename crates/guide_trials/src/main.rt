@@ -138,7 +138,7 @@ fn put_trials<R: Print + io::Input + Files, E: Print>(
 }
 
 fn main(rt: HostRuntime) {
-    let program = Program::new(&rt, "guide_trials");
+    let program = Program::new(&rt, b"guide_trials");
     if let Err(error) = put_trials(&program) {
         let _ = program.say(Reason(error));
     }

@@ -86,7 +86,7 @@ fn answer_to<R: Print + Files, E: Print>(
     let index = match call.read_index(rt, &mut bytes) {
         Ok(n) => &bytes[..n],
         Err(error) => {
-            program.fail("index", error);
+            program.fail(b"index", error);
             return Ok(());
         }
     };
@@ -130,7 +130,7 @@ fn words_of(call: Call, line_asked: bool) -> usize {
 }
 
 fn main(rt: HostRuntime) {
-    let program = Program::new(&rt, "judge");
+    let program = Program::new(&rt, b"judge");
     let line_asked = program.option_asked(1, b"--line");
     let call = call_asked(&program, if line_asked { 2 } else { 1 });
     let Some(budget) = program.budget_asked(words_of(call, line_asked)) else {

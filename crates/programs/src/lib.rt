@@ -87,12 +87,12 @@ pub fn read_all<R: Read>(input: &mut R, buf: &mut [u8]) -> io::Result<usize>
 pub struct Program<'a, R, E> {
     pub rt: &'a R,
     pub err: E,
-    name: &'a str,
+    name: &'a [u8],
 }
 
 impl<'a> Program<'a, HostRuntime, Stderr> {
     // The errors go to standard error.
-    pub fn new(rt: &'a HostRuntime, name: &'a str) -> Self
+    pub fn new(rt: &'a HostRuntime, name: &'a [u8]) -> Self
         ensures { result.name.now ≡ name.now }
     {
         Program::on(rt, rt.stderr(), name)
@@ -101,7 +101,7 @@ impl<'a> Program<'a, HostRuntime, Stderr> {
 
 impl<'a, R, E> Program<'a, R, E> {
     // A program on any runtime, whose errors go to anything that prints, or to a writer in `Written`.
-    pub fn on(rt: &'a R, err: E, name: &'a str) -> Self
+    pub fn on(rt: &'a R, err: E, name: &'a [u8]) -> Self
         ensures runtime { result.rt.now ≡ rt.now }
         ensures errors { result.err ≡ err }
         ensures named { result.name.now ≡ name.now }
@@ -111,33 +111,32 @@ impl<'a, R, E> Program<'a, R, E> {
 }
 
 impl<R, E: Print> Program<'_, R, E> {
+    // A line that begins with these bytes, which may be no text.
+    fn say_after<D: Display + Drop>(&self, said: &[u8], file: &[u8], text: D) -> io::Result<()> {
+        self.err.write_all(said)?;
+        self.err.write_all(file)?;
+        println!(self.err; ": {text}")
+    }
+
     // A line with the program's name before it.
     pub fn say<D: Display + Drop>(&self, text: D) -> io::Result<()> {
-        let name = self.name;
-        println!(self.err; "{name}: {text}")
+        self.say_after(b"", self.name, text)
+    }
+
+    // The same of a file, or of what failed.
+    fn say_of<D: Display + Drop>(&self, what: &[u8], text: D) -> io::Result<()> {
+        self.err.write_all(self.name)?;
+        self.say_after(b": ", what, text)
     }
 
     // What failed, and why.
-    pub fn fail<D: Display + Drop>(&self, what: D, error: io::Error) {
-        let reason = Reason(error);
-        let _ = self.say(format_args!("{what}: {reason}"));
+    pub fn fail(&self, what: &[u8], error: io::Error) {
+        let _ = self.say_of(what, Reason(error));
     }
 
     // What a budget is.
     pub fn say_budget(&self) {
         let _ = self.say("a budget is a decimal number up to 4294967295");
-    }
-
-    // A line that begins with this text and the name of a file, which is written as bytes, since it may be no text.
-    fn say_of<S: Display + Drop, D: Display + Drop>(
-        &self,
-        said: S,
-        file: &[u8],
-        text: D,
-    ) -> io::Result<()> {
-        self.err.print(said)?;
-        self.err.write_all(file)?;
-        println!(self.err; ": {text}")
     }
 }
 
@@ -148,7 +147,7 @@ impl<R: io::Input, E: Print> Program<'_, R, E> {
     {
         let read = read_all(&mut self.rt.reader(), buf);
         if let Err(error) = read {
-            self.fail("standard input", error);
+            self.fail(b"standard input", error);
         }
         read
     }
@@ -163,19 +162,19 @@ impl<R: io::Input, E: Print> Program<'_, R, E> {
             return;
         };
         if let Err(error) = answer(&bytes[..n]) {
-            self.fail("standard output", error);
+            self.fail(b"standard output", error);
         }
     }
 }
 
 impl<R: Files, E: Print> Program<'_, R, E> {
     // Reads the file of this name as far as buf goes. Where it can't be read a line says why, with `said` before the name.
-    pub fn read_file(&self, said: &str, name: &[u8], buf: &mut [u8]) -> io::Result<usize>
+    pub fn read_file(&self, said: &[u8], name: &[u8], buf: &mut [u8]) -> io::Result<usize>
         ensures { ReadsAtMost result buf.new }
     {
         let read = read_named(self.rt, name, buf);
         if let Err(error) = read {
-            let _ = self.say_of(said, name, Reason(error));
+            let _ = self.say_after(said, name, Reason(error));
         }
         read
     }
@@ -188,9 +187,8 @@ impl<R: Files, E: Print> Program<'_, R, E> {
             return true;
         }
         let small = TooSmall { needed, limit };
-        let name = self.name;
         let _ = match file {
-            Some(file) => self.say_of(format_args!("{name}: "), file, small),
+            Some(file) => self.say_of(file, small),
             None => self.say(small),
         };
         false
@@ -200,14 +198,14 @@ impl<R: Files, E: Print> Program<'_, R, E> {
 impl<R: Env + Files, E: Print> Program<'_, R, E> {
     // Reads the file that the program's argument i names, as far as buf goes. Where it can't be read a line says why, with `said` before the
     // file's name, or, where that can't be had, with the program's.
-    pub fn read_argument(&self, said: &str, i: usize, buf: &mut [u8]) -> io::Result<usize>
+    pub fn read_argument(&self, said: &[u8], i: usize, buf: &mut [u8]) -> io::Result<usize>
         ensures { ReadsAtMost result buf.new }
     {
         let mut name = [0u8; NAME_ROOM];
         match self.word_at(i, &mut name) {
             Ok(n) => self.read_file(said, &name[..n], buf),
             Err(error) => {
-                self.fail("file name", error);
+                self.fail(b"file name", error);
                 Err(error)
             }
         }

@@ -49,7 +49,7 @@ impl<'a> Name<'a> {
         if self.is_standard_input() {
             program.read_input(buf)
         } else {
-            program.read_file("review: ", self.0, buf)
+            program.read_file(b"review: ", self.0, buf)
         }
     }
 }

@@ -114,7 +114,7 @@ where
         program.rt, tallied, tally,
     ));
     if let Err(error) = told {
-        program.fail("standard output", error);
+        program.fail(b"standard output", error);
     }
 }
 
@@ -146,7 +146,7 @@ fn review_from<R: Print + io::Input + Env + Files, E: Print>(
 }
 
 fn main(rt: HostRuntime) {
-    let program = Program::new(&rt, "review");
+    let program = Program::new(&rt, b"review");
     let tallied = program.is_word(1, b"--tally");
     review_from(&program, tallied, if tallied { 2 } else { 1 });
 }
