@@ -241,12 +241,12 @@ impl<R: Env, E> Program<'_, R, E> {
         &room[..n]
     }
 
-    // Argument i of the program is this word.
+    // Argument i of the program is this word. One that is missing or too long stands for the empty word.
     pub fn is_word(&self, i: usize, word: &[u8]) -> bool {
         let mut text = [0u8; NAME_ROOM];
         match self.word_at(i, &mut text) {
             Ok(n) => &text[..n] == word,
-            Err(_) => false,
+            Err(_) => word.is_empty(),
         }
     }
 
