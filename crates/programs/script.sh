@@ -1,9 +1,9 @@
-# What the scripts of the programs share: sourced, by a path without links, with $program, the program's name, and
-# $usage, what --help prints.
+# What the scripts of the programs share: sourced with $program, the program's name, and $usage, what --help prints.
 # Their status is 0 for answer 0, 1 for any other answer and 2 where there is none (FORMAT 12.16, 12.17).
 set -u
 LC_ALL=C
-root=${BASH_SOURCE[0]%/crates/programs/script.sh}
+root=$(readlink -f "${BASH_SOURCE[0]}")
+root=${root%/crates/programs/script.sh}
 
 fail() { echo "$program: $1" >&2; exit 2; }
 misused() { fail "$1"$'\n'"$usage"; }

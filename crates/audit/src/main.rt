@@ -20,9 +20,10 @@ fn put_answer(rt: &impl Print, answer: Answer) -> io::Result<()> {
 }
 
 // What the call answers to the request and the derivation that these two arguments name.
-fn audit_files<R, F>(program: &Program<'_, R>, files: [usize; 2], call: F)
+fn audit_files<R, E, F>(program: &Program<'_, R, E>, files: [usize; 2], call: F)
 where
     R: Print + Env + Files,
+    E: Print,
     F: FnOnce(&[u8], &[u8]) -> Answer + Drop,
     requires { F.IsAlwaysCallable call }
 {
@@ -30,20 +31,20 @@ where
     // One byte more than a request or a derivation may have: a longer one is refused whatever it holds.
     let mut request = [0u8; REQUEST_ROOM];
     let mut derivation = [0u8; DERIVATION_ROOM];
-    let Ok(n) = program.read_argument("", i, &mut request) else {
+    let Ok(n) = program.read_argument(b"", i, &mut request) else {
         return;
     };
-    let Ok(m) = program.read_argument("", j, &mut derivation) else {
+    let Ok(m) = program.read_argument(b"", j, &mut derivation) else {
         return;
     };
     let answer = call(&request[..n], &derivation[..m]);
     if let Err(error) = put_answer(program.rt, answer) {
-        program.fail("standard output", error);
+        program.fail(b"standard output", error);
     }
 }
 
 fn main(rt: HostRuntime) {
-    let program = Program::new(&rt, "audit");
+    let program = Program::new(&rt, b"audit");
     let count = program.word_count();
     // The option for derivations in the closing layout.
     let whether = program.is_word(1, b"--whether");

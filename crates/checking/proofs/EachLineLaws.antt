@@ -20,7 +20,7 @@ use Rattle.meaning.specs.Literals.{among}
 use Rattle.meaning.specs.Requests.{Table}
 use Rattle.meaning.specs.Derivations.{Line, rule_1, rule_2, rule_3, rule_4, rule_5, rule_6, rule_7, rule_8, of_one, of_two, given_by, for_lists, follows, citations_taken, citations_of, a_rule, cited_by}
 use Rattle.meaning.proofs.TestLaws.{by-test, clash, both_left, both_right, fails_false, pick_true, pick_false, each_mono}
-use Rattle.std.specs.Prelude.{Some, None}
+use Rattle.std.specs.Prelude.{Option, Some, None}
 use Rattle.parsing.specs.declared.rule_kinds.Rule.{Rule}
 use Rattle.parsing.specs.declared.rule_kinds.Rule.TheVariants.{Empty, Action, Sensing, Branching, Composition, Consequence, Look, Literal, SensingWhether, CompositionWhether, BranchingWhether}
 use Rattle.parsing.specs.RuleKinds.{rule_number, rule_of}
@@ -397,20 +397,20 @@ module _ (layout : Layout) (n m : ℕ) (d places : List ℕ) (count i : ℕ) (he
         omega (arith, size, room)
 
     -- WHAT REFUSES IT.
-    pub not_said : (t : Table) → w.rule ≡ None → 31 ≡ refused_by layout t (lines_in layout n m d) i (line_in layout n m d i)
+    pub not_said : (t : Table) (found : Option Rule) → found ≡ rule_of w.rule → found ≡ None → 31 ≡ refused_by layout t (lines_in layout n m d) i (line_in layout n m d i)
     unfolding refused_by
-    not_said t none = sym (pick_true _ _ _ (fails_false _ (no_a_rule (line_in layout n m d i).rule (sym own.rule ∙ none) layout)))
+    not_said t found looked none = sym (pick_true _ _ _ (fails_false _ (no_a_rule (line_in layout n m d i).rule (sym (looked ∙ ap rule_of own.rule) ∙ none) layout)))
 
-    module _ (said : Rule) (told : w.rule ≡ Some said) where
+    module _ (found : Option Rule) (looked : found ≡ rule_of w.rule) (said : Rule) (told : found ≡ Some said) where
       said_is : rule_number said ≡ (line_in layout n m d i).rule
-      said_is = rule_has (line_in layout n m d i).rule said (sym own.rule ∙ told)
+      said_is = rule_has (line_in layout n m d i).rule said (sym (looked ∙ ap rule_of own.rule) ∙ told)
 
       pub rule_mapped : (rule : Rule) → rule_number rule ≡ for_lists (rule_number said) → rule_number rule ≡ for_lists (line_in layout n m d i).rule
       rule_mapped rule mapped = mapped ∙ ap for_lists said_is
 
-    module _ (said : Rule) (told : w.rule ≡ Some said) (known : Bool) (tested : known ≡ a_rule layout (rule_number said)) where
+    module _ (found : Option Rule) (looked : found ≡ rule_of w.rule) (said : Rule) (told : found ≡ Some said) (known : Bool) (tested : known ≡ a_rule layout (rule_number said)) where
       known_is : known ≡ a_rule layout (line_in layout n m d i).rule
-      known_is = tested ∙ ap (a_rule layout) (said_is said told)
+      known_is = tested ∙ ap (a_rule layout) (said_is found looked said told)
 
       pub not_known : (t : Table) → known ≡ false → 31 ≡ refused_by layout t (lines_in layout n m d) i (line_in layout n m d i)
       unfolding refused_by
@@ -422,7 +422,7 @@ module _ (layout : Layout) (n m : ℕ) (d places : List ℕ) (count i : ℕ) (he
 
         right_is : right ≡ among (length (line_in layout n m d i).cites) (citations_of (line_in layout n m d i).rule)
         unfolding citations_of
-        right_is = taken ∙ ap₂ {C = Bool} (λ (a b : ℕ). among a (citations_taken b)) cited_is (rule_mapped said told rule mapped)
+        right_is = taken ∙ ap₂ {C = Bool} (λ (a b : ℕ). among a (citations_taken b)) cited_is (rule_mapped found looked said told rule mapped)
 
         pub not_taken : (t : Table) → right ≡ false → 33 ≡ refused_by layout t (lines_in layout n m d) i (line_in layout n m d i)
         unfolding refused_by
@@ -444,7 +444,7 @@ module _ (layout : Layout) (n m : ℕ) (d places : List ℕ) (count i : ℕ) (he
           module _ (before : earlier ≡ true) (t : Table) (good : Bool) (given : good ≡ Given t (rule_number rule)) where
             good_is : good ≡ follows format t (cited_by (lines_in layout n m d) (line_in layout n m d i)) (line_in layout n m d i)
             unfolding follows
-            good_is = given ∙ ap (Given t) (rule_mapped said told rule mapped)
+            good_is = given ∙ ap (Given t) (rule_mapped found looked said told rule mapped)
 
             pub not_following : good ≡ false → 34 ≡ refused_by layout t (lines_in layout n m d) i (line_in layout n m d i)
             unfolding refused_by

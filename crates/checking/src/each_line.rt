@@ -146,7 +146,7 @@ fn line_refused(
     ensures { number_or_none result ≡ refused_by layout (table_in Flags r.now.bytes.now) (lines_in layout n m d.now) i (line_in layout n m d.now i) }
 {
     let l = spot_of(layout, d, places, lines, i);
-    let Some(said) = l.rule else {
+    let Some(said) = Rule::of(l.rule) else {
         return Some(Refusal::NoSuchRule);
     };
     if !is_rule(layout, said) {

@@ -32,7 +32,6 @@ use Rattle.finding.proofs.PlanHere.{listed_length}
 use Rattle.finding.proofs.WrittenLaws.{two_is}
 use Rattle.derivation.proofs.DerivationLaws.{plan_ends}
 use Rattle.derivation.proofs.DerivedLaws.{derived_here}
-use Rattle.parsing.specs.RuleKinds.{rule_of}
 use Rattle.comparing.specs.declared.spots.Concludes.TheVariants.{Literals, Fluent}
 use Rattle.comparing.specs.declared.spots.Spot.{Spot}
 use Rattle.comparing.specs.Stands.{after_list, ListStands, PlanStands, NumbersStand, ConclusionStands, Stands, spot_at, LinesStand, ClosingStands, Derived, SomeDerived}
@@ -88,7 +87,7 @@ module _ (n m : ℕ) (d : List ℕ) where
   -- The conclusion and the rule, up to t.
   record ConcludedStands (w : Spot) (x : Concluded) (t : ℕ) : Type 0 where
     Y : ConclusionStands d w.conclusion x.Y
-    rule : w.rule ≡ rule_of x.rule
+    rule : w.rule ≡ x.rule
     after : t ≡ w.cites
 
   list_concludes : n ≤ format.fluents → (y : ℕ) (Y : Conclusion) (q : ℕ) → list_concluded format n d y ≡ got Y q → ConclusionStands d (Literals y) Y × (q ≡ after_list d y)
@@ -114,7 +113,7 @@ module _ (n m : ℕ) (d : List ℕ) where
       let second = byte_got d q rule u byte in
       let on = first.1 in let next = second.2 in let end = got_place is2 in
       subst (λ (y : Concluded). ConcludedStands (spot_at Plain d p e) y t) (got_same is2)
-      (record { Y = first.0; rule = ap rule_of (ap (λ (j : ℕ). get_or d j 0) (sym on) ∙ second.1); after = omega (arith, on, next, end) })
+      (record { Y = first.0; rule = ap (λ (j : ℕ). get_or d j 0) (sym on) ∙ second.1; after = omega (arith, on, next, end) })
   concluded_stands few Closing p e x t is =
       after_got (byte_at d e) _ is λ rule q byte is1.
       after_got (conclusion_at format n d rule q) _ is1 λ Y u conclusion is2.
@@ -128,11 +127,11 @@ module _ (n m : ℕ) (d : List ℕ) where
       let second = fluent_concludes few (e + 1) Y u (subst (λ (j : ℕ). fluent_concluded format n d j ≡ got Y u) at reads) in
       let on = second.1 in
       subst (λ (w : Spot). ConcludedStands w (record { rule = rule; Y = Y }) t) (sym (spot_fluent d p e (kind ∙ yes)))
-      (record { Y = second.0; rule = ap rule_of first.1; after = omega (arith, on, end) }))
+      (record { Y = second.0; rule = first.1; after = omega (arith, on, end) }))
       (λ no reads.
       let second = list_concludes few (e + 1) Y u (subst (λ (j : ℕ). list_concluded format n d j ≡ got Y u) at reads) in
       subst (λ (w : Spot). ConcludedStands w (record { rule = rule; Y = Y }) t) (sym (spot_list d p e (kind ∙ no)))
-      (record { Y = second.0; rule = ap rule_of first.1; after = sym end ∙ second.1 })))
+      (record { Y = second.0; rule = first.1; after = sym end ∙ second.1 })))
 
   -- A line starts with its list X and its plan, in either layout.
   pub record LineParts (p : ℕ) (l : Line) : Type 0 where

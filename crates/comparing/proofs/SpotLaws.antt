@@ -18,10 +18,6 @@ use Rattle.meaning.proofs.TestLaws.{by-test, pick_true, pick_false}
 use Rattle.reading.specs.Listed.{listed, ListHere}
 use Rattle.derivation.specs.DerivationRead.{plan_ends_slot}
 use Rattle.finding.specs.Branches.{sequence_place}
-use Rattle.std.specs.Prelude.{Option}
-use Rattle.parsing.specs.declared.rule_kinds.Rule.{Rule}
-use Rattle.parsing.specs.RuleKinds.{rule_of, number_or_none}
-use Rattle.derivation.proofs.DerivationLaws.{concludes_as}
 use Rattle.comparing.specs.declared.spots.Concludes.{Concludes}
 use Rattle.comparing.specs.declared.spots.Concludes.TheVariants.{Literals, Fluent}
 use Rattle.comparing.specs.declared.spots.Spot.{Spot}
@@ -39,7 +35,7 @@ module _ (d : List ℕ) where
 -- CLOSING LINES, by their rule.
 module _ (d : List ℕ) (p e : ℕ) where
   abbrev pub closing_spot : Concludes → (cites : ℕ) → Spot
-  closing_spot conclusion cites = record { line = p; end = e; conclusion = conclusion; cites = cites; rule = rule_of (get_or d e 0) }
+  closing_spot conclusion cites = record { line = p; end = e; conclusion = conclusion; cites = cites; rule = get_or d e 0 }
 
   pub spot_fluent : concludes_fluent (get_or d e 0) ≡ true → spot_at Closing d p e ≡ closing_spot (Fluent (get_or d (e + 1) 0)) (e + 2)
   unfolding spot_at
@@ -81,10 +77,10 @@ module _ (layout : Layout) (d : List ℕ) (p e : ℕ) where
       pub plain_cites : SomeAt layout d p e → Fits w64 (length d) → Fits w64 (at + 1)
       plain_cites some room = let there = cites_there some in let most = room.fits in record { fits = omega arith }
 
-      pub plain_spot : (byte : ℕ) → byte ≡ get_or d at 0 → (rule : Option Rule) → rule ≡ rule_of byte
+      pub plain_spot : (rule : ℕ) → rule ≡ get_or d at 0
           → record { line = p; end = e; conclusion = Literals e; cites = at + 1; rule = rule } ≡ spot_at layout d p e
       unfolding spot_at sequence_place after_list
-      plain_spot byte read rule said = rw (plain, said, read, after) refl
+      plain_spot rule read = rw (plain, read, after) refl
 
   module _ (closing : layout ≡ Closing) where
     fluently : (some : SomeAt layout d p e) → concludes_fluent (get_or d e 0) ≡ true → Stands d (closing_spot d p e (Fluent (get_or d (e + 1) 0)) (e + 2)) some.line
@@ -112,19 +108,16 @@ module _ (layout : Layout) (d : List ℕ) (p e : ℕ) where
     closing_fits some room = let there = y_there some in let most = room.fits in record { fits = omega arith }
 
     -- What the rule tells.
-    module _ (byte : ℕ) (read : byte ≡ get_or d e 0) (rule : Option Rule) (said : rule ≡ rule_of byte) (fluent : Bool) (told : fluent ≡ concludes_fluent (number_or_none rule)) where
+    module _ (rule : ℕ) (read : rule ≡ get_or d e 0) (fluent : Bool) (told : fluent ≡ concludes_fluent rule) where
       kind : {b : Bool} → fluent ≡ b → concludes_fluent (get_or d e 0) ≡ b
-      kind is = ap concludes_fluent (sym read) ∙ sym (concludes_as byte rule said) ∙ sym told ∙ is
-
-      rule_is : rule ≡ rule_of (get_or d e 0)
-      rule_is = said ∙ ap rule_of read
+      kind is = ap concludes_fluent (sym read) ∙ sym told ∙ is
 
       module _ (is : fluent ≡ true) where
         pub fluent_fits : SomeAt layout d p e → Fits w64 (length d) → Fits w64 (e + 2)
         fluent_fits some room = let counted = (fluently some (kind is)).counted in let most = room.fits in record { fits = omega arith }
 
         pub fluent_spot : record { line = p; end = e; conclusion = Fluent (get_or d (e + 1) 0); cites = e + 2; rule = rule } ≡ spot_at layout d p e
-        fluent_spot = rw (closing, spot_fluent d p e (kind is), rule_is) refl
+        fluent_spot = rw (closing, spot_fluent d p e (kind is), read) refl
 
       module _ (is : fluent ≡ false) where
         pub closing_list : SomeAt layout d p e → ListHere all_literals d (e + 1)
@@ -132,7 +125,7 @@ module _ (layout : Layout) (d : List ℕ) (p e : ℕ) where
 
         pub list_spot : (cites : ℕ) → cites ≡ sequence_place Flags d (e + 1) → record { line = p; end = e; conclusion = Literals (e + 1); cites = cites; rule = rule } ≡ spot_at layout d p e
         unfolding sequence_place after_list
-        list_spot cites place = rw (closing, spot_list d p e (kind is), rule_is, place) refl
+        list_spot cites place = rw (closing, spot_list d p e (kind is), read, place) refl
 
 -- LINE k. What is asked past the last line is no line.
 no_line : Line

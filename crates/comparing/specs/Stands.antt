@@ -15,7 +15,6 @@ use Rattle.reading.specs.Planned.{bytes_of}
 use Rattle.finding.specs.PlansHeld.{own_items}
 use Rattle.derivation.specs.DerivationRead.{settled_derivation, plan_ends_slot, lines_end}
 use Rattle.derivation.specs.Derived.{LinesHere}
-use Rattle.parsing.specs.RuleKinds.{rule_of}
 use Rattle.comparing.specs.declared.spots.Concludes.{Concludes}
 use Rattle.comparing.specs.declared.spots.Concludes.TheVariants.{Literals, Fluent}
 use Rattle.comparing.specs.declared.spots.Spot.{Spot}
@@ -60,7 +59,7 @@ pub record Stands (d : List ℕ) (w : Spot) (l : Line) : Type 0 where
   pub X : ListStands d w.line l.X
   pub plan : PlanStands d (after_list d w.line) w.end l.c
   pub Y : ConclusionStands d w.conclusion l.Y
-  pub rule : w.rule ≡ rule_of l.rule
+  pub rule : w.rule ≡ l.rule
   pub counted : w.cites < length d
   pub cited : get_or d w.cites 0 ≡ length l.cites
   pub most : length l.cites ≤ format.citations
@@ -68,11 +67,11 @@ pub record Stands (d : List ℕ) (w : Spot) (l : Line) : Type 0 where
 
 -- The parts of the line at p whose plan ends at e, by the layout (FORMAT 10.3, 17.4 to 17.6).
 unfoldable pub spot_at : Layout → List ℕ → (p e : ℕ) → Spot
-spot_at Plain d p e = record { line = p; end = e; conclusion = Literals e; cites = after_list d e + 1; rule = rule_of (get_or d (after_list d e) 0) }
+spot_at Plain d p e = record { line = p; end = e; conclusion = Literals e; cites = after_list d e + 1; rule = get_or d (after_list d e) 0 }
 spot_at Closing d p e =
     pick (concludes_fluent (get_or d e 0))
-    (λ _. record { line = p; end = e; conclusion = Fluent (get_or d (e + 1) 0); cites = e + 2; rule = rule_of (get_or d e 0) })
-    (λ _. record { line = p; end = e; conclusion = Literals (e + 1); cites = after_list d (e + 1); rule = rule_of (get_or d e 0) })
+    (λ _. record { line = p; end = e; conclusion = Fluent (get_or d (e + 1) 0); cites = e + 2; rule = get_or d e 0 })
+    (λ _. record { line = p; end = e; conclusion = Literals (e + 1); cites = after_list d (e + 1); rule = get_or d e 0 })
 
 -- The number that citation k of the line at w says.
 abbrev pub number_cited : List ℕ → Spot → ℕ → ℕ

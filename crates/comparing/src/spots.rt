@@ -9,7 +9,6 @@ use derivation::derived::{end_of, place_of};
 use finding::branches::sequence_of;
 use meaning::{Form, Layout};
 use parsing::bytes::{two, wide};
-use parsing::rule_kinds::Rule;
 
 // What a line concludes: the list of literals at a place, or a fluent.
 #[derive(Clone, Copy)]
@@ -18,15 +17,15 @@ pub enum Concludes {
     Fluent(u8),
 }
 
-// Where the parts of a line stand: the line with its list X, the end of its plan, the count of its citations. And its conclusion, and its rule, if
-// it has one.
+// Where the parts of a line stand: the line with its list X, the end of its plan, the count of its citations. And its conclusion, and the number
+// that its rule byte says, of a rule or of none.
 #[derive(Clone, Copy)]
 pub struct Spot {
     pub line: usize,
     pub end: usize,
     pub conclusion: Concludes,
     pub cites: usize,
-    pub rule: Option<Rule>,
+    pub rule: usize,
 }
 
 // The parts of the line at p whose plan ends at e: what is between the plan and the citations goes by the layout.
@@ -42,11 +41,11 @@ fn spot_at(layout: Layout, d: &[u8], p: usize, e: usize) -> Spot
                 end: e,
                 conclusion: Concludes::Literals(e),
                 cites: at + 1,
-                rule: Rule::of(wide(d[at])),
+                rule: wide(d[at]),
             }
         }
         Layout::Closing => {
-            let rule = Rule::of(wide(d[e]));
+            let rule = wide(d[e]);
             let (conclusion, cites) = if gives_fluent(rule) {
                 (Concludes::Fluent(d[e + 1]), e + 2)
             } else {

@@ -81,14 +81,14 @@ concludes_as rule None is = sym (rw (other Look, other Literal, other SensingWhe
     other : (r : Rule) → eqb rule (rule_number r) ≡ false
     other r = ne_eqb rule (rule_number r) (none_has rule (sym is) r)
 
-module _ (n : ℕ) (s : List ℕ) (rule p : ℕ) (said : Option Rule) (told : said ≡ rule_of rule) (fluent : Bool) (which : fluent ≡ concludes_fluent (number_or_none said)) where
-  which_is : fluent ≡ concludes_fluent rule
-  which_is = which ∙ concludes_as rule said told
+pub fluent_as : (rule : ℕ) (said : Option Rule) → said ≡ rule_of rule → (fluent : Bool) → fluent ≡ concludes_fluent (number_or_none said) → fluent ≡ concludes_fluent rule
+fluent_as rule said is fluent told = told ∙ concludes_as rule said is
 
+module _ (n : ℕ) (s : List ℕ) (rule p : ℕ) (fluent : Bool) (which : fluent ≡ concludes_fluent rule) where
   module _ (number : Numbered) (is : fluent ≡ true) (read : numbered number ≡ (below_at n s p)) where
     by_fluent : conclusion_at format n s rule p ≡ fluent_concluded format n s p
     unfolding conclusion_at
-    by_fluent = pick_true _ _ _ (sym which_is ∙ is)
+    by_fluent = pick_true _ _ _ (sym which ∙ is)
 
     pub fluent_whole : (x q : ℕ) → number ≡ Ok (x, q) → over (Ok q) ≡ passed (conclusion_at format n s rule p)
     unfolding fluent_concluded next passed
@@ -100,7 +100,7 @@ module _ (n : ℕ) (s : List ℕ) (rule p : ℕ) (said : Option Rule) (told : sa
 
   pub list_whole : (r : Passed) → fluent ≡ false → over r ≡ passed (list_at (kind_of Literals) n format.listed s p) → over r ≡ passed (conclusion_at format n s rule p)
   unfolding conclusion_at list_concluded kind_of
-  list_whole r is read = read ∙ sym (ap passed (pick_false _ _ _ (sym which_is ∙ is)) ∙ passed_same (list_at literals n format.listed s p) knows)
+  list_whole r is read = read ∙ sym (ap passed (pick_false _ _ _ (sym which ∙ is)) ∙ passed_same (list_at literals n format.listed s p) knows)
 
 -- With the rule byte, in the layout's order.
 module _ (layout : Layout) (n : ℕ) (s : List ℕ) (p : ℕ) where

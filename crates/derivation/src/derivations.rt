@@ -3,7 +3,6 @@ ghost use Rattle.meaning.specs.Limits.{format};
 ghost use Rattle.meaning.specs.Reading.{repeated, two_bytes_at};
 ghost use Rattle.meaning.specs.Derivations.{concludes_fluent, conclusion_at, concluded_at, line_at, closing_at, read_derivation};
 ghost use Rattle.parsing.specs.Read.{numbered, over, passed};
-ghost use Rattle.parsing.specs.RuleKinds.{number_or_none};
 ghost use Rattle.reading.specs.Noted.{noting, outcome};
 ghost use Rattle.derivation.specs.DerivationRead.{places_noted, derivation_noted, citing, ending, planned, lined, places_slots};
 
@@ -54,12 +53,12 @@ fn cites_at(s: &[u8], p: usize) -> Result<usize, Fault>
     citations_from(s, count, first)
 }
 
-// The rule concludes a fluent.
-pub fn gives_fluent(rule: Option<Rule>) -> bool
-    ensures { result ≡ concludes_fluent (number_or_none rule) }
+// The rule with this number concludes a fluent; none does where no rule has it.
+pub fn gives_fluent(rule: usize) -> bool
+    ensures { result ≡ concludes_fluent rule }
 {
     matches!(
-        rule,
+        Rule::of(rule),
         Some(
             Rule::Look
                 | Rule::Literal
@@ -75,7 +74,7 @@ fn conclusion_at(n: usize, s: &[u8], rule: usize, p: usize) -> Result<usize, Fau
     requires { n ≤ format.fluents }
     ensures { over result ≡ passed (conclusion_at format n s.now rule p) }
 {
-    if gives_fluent(Rule::of(rule)) {
+    if gives_fluent(rule) {
         let (_, after) = below_at(n, s, p)?;
         return Ok(after);
     }

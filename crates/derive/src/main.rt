@@ -7,7 +7,7 @@ use parsing::limits;
 use programs::Program;
 
 fn main(rt: HostRuntime) {
-    let program = Program::new(&rt, "derive");
+    let program = Program::new(&rt, b"derive");
     let told = program.option_asked(1, b"--answer");
     // Beside a budget there are the program's name, and that word.
     let words = if told { 2 } else { 1 };

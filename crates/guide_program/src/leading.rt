@@ -31,8 +31,8 @@ fn put_action(rt: &impl Print, action: usize, asked: &Fluents) -> io::Result<()>
 }
 
 // Reads lines until one has readings, and gives their number; or there is none any more. It asks for a line where somebody is to be asked, and says why one is not taken.
-fn ask<R, I: Read>(
-    program: &Program<'_, R>,
+fn ask<R, E: Print, I: Read>(
+    program: &Program<'_, R, E>,
     input: &mut I,
     asked: &Fluents,
     prompts: bool,
@@ -56,8 +56,8 @@ fn ask<R, I: Read>(
 }
 
 // Calls the guide until the plan is done.
-fn run<R: Print + io::Input>(
-    program: &Program<'_, R>,
+fn run<R: Print + io::Input, E: Print>(
+    program: &Program<'_, R, E>,
     guide: Guide,
     prompts: bool,
 ) -> Result<Ending, Failure> {
@@ -93,15 +93,15 @@ fn run<R: Print + io::Input>(
 }
 
 // How the run ends; or nothing where something failed, which is said.
-pub fn lead<R: Print + io::Input>(
-    program: &Program<'_, R>,
+pub fn lead<R: Print + io::Input, E: Print>(
+    program: &Program<'_, R, E>,
     guide: Guide,
     prompts: bool,
 ) -> Option<Ending> {
     match run(program, guide, prompts) {
         Ok(ending) => return Some(ending),
-        Err(Failure::Input(error)) => program.fail("standard input", error),
-        Err(Failure::Output(error)) => program.fail("standard output", error),
+        Err(Failure::Input(error)) => program.fail(b"standard input", error),
+        Err(Failure::Output(error)) => program.fail(b"standard output", error),
         Err(Failure::Unsaid) => {}
     }
     None

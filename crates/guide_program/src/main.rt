@@ -19,8 +19,8 @@ use verdicts::answers;
 
 // How the run ends. The budget is argument i, and the request's file is named by the one behind it, which is the last. Without enough stack there is no
 // start, which is said.
-fn guide_arguments<R: Print + io::Input + Env + Files>(
-    program: &Program<'_, R>,
+fn guide_arguments<R: Print + io::Input + Env + Files, E: Print>(
+    program: &Program<'_, R, E>,
     i: usize,
     prompts: bool,
 ) -> Option<Ending>
@@ -36,7 +36,7 @@ fn guide_arguments<R: Print + io::Input + Env + Files>(
     };
     // One byte more than a request may have: a longer one is refused whatever it holds.
     let mut bytes = [0u8; REQUEST_ROOM];
-    let n = program.read_argument("guide: ", i + 1, &mut bytes).ok()?;
+    let n = program.read_argument(b"guide: ", i + 1, &mut bytes).ok()?;
     if !program.stack_is_enough(None, n) {
         return None;
     }
@@ -59,7 +59,7 @@ fn tell<R: Files>(rt: &R, ending: Option<Ending>) {
 
 // The script's words come first: that it is to be told how the program ends, and that there is somebody to be prompted.
 fn main(rt: HostRuntime) {
-    let program = Program::new(&rt, "guide");
+    let program = Program::new(&rt, b"guide");
     let prompts = program.is_word(1, b"--prompt");
     if prompts || program.is_word(1, b"--answer") {
         let ending = guide_arguments(&program, 2, prompts);

@@ -35,7 +35,7 @@ impl Display for Refusal {
     }
 }
 
-pub fn say_refused<R>(program: &Program<'_, R>, answer: Answer) -> io::Result<()> {
+pub fn say_refused<R, E: Print>(program: &Program<'_, R, E>, answer: Answer) -> io::Result<()> {
     program.say(Refusal(answer))
 }
 
@@ -48,7 +48,7 @@ pub fn listed(asked: &Fluents) -> Counted<'_> {
 }
 
 // What an operator at a terminal is asked before a line is read.
-pub fn prompt<R>(program: &Program<'_, R>, asked: &Fluents) -> io::Result<()> {
+pub fn prompt<R, E: Print>(program: &Program<'_, R, E>, asked: &Fluents) -> io::Result<()> {
     let fluents = listed(asked);
     print!(program.err; "0 or 1 for each of the fluents{fluents}: ")
 }

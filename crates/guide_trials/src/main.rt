@@ -105,8 +105,8 @@ fn put_calls<R: Print, I: Read>(
 }
 
 // A trial with this budget: the start and the calls behind it.
-fn put_trial<R: Print + Files, I: Read>(
-    program: &Program<'_, R>,
+fn put_trial<R: Print + Files, E: Print, I: Read>(
+    program: &Program<'_, R, E>,
     input: &mut I,
     budget: u32,
 ) -> io::Result<()> {
@@ -124,7 +124,9 @@ fn put_trial<R: Print + Files, I: Read>(
 }
 
 // It ends where the input ends, and at the first trial that can't be read or answered.
-fn put_trials<R: Print + io::Input + Files>(program: &Program<'_, R>) -> io::Result<()> {
+fn put_trials<R: Print + io::Input + Files, E: Print>(
+    program: &Program<'_, R, E>,
+) -> io::Result<()> {
     let mut input = program.rt.reader();
     for _ in 0..u64::MAX {
         let Ok(budget) = number_read::<4, R::Reader>(&mut input) else {
@@ -136,7 +138,7 @@ fn put_trials<R: Print + io::Input + Files>(program: &Program<'_, R>) -> io::Res
 }
 
 fn main(rt: HostRuntime) {
-    let program = Program::new(&rt, "guide_trials");
+    let program = Program::new(&rt, b"guide_trials");
     if let Err(error) = put_trials(&program) {
         let _ = program.say(Reason(error));
     }

@@ -7,7 +7,7 @@ use parsing::limits;
 use programs::Program;
 
 fn main(rt: HostRuntime) {
-    let program = Program::new(&rt, "index");
+    let program = Program::new(&rt, b"index");
     let told = program.option_asked(1, b"--answer");
     // The program's name, and that word.
     let words = if told { 2 } else { 1 };

@@ -74,8 +74,8 @@ impl Call {
 
 // The answer, for 1, 2 and 43 the state, and where it is asked for the line. Without the index that the call takes, or enough stack, there is no
 // answer, which is said. The index is read once the request is.
-fn answer_to<R: Print + Files>(
-    program: &Program<'_, R>,
+fn answer_to<R: Print + Files, E: Print>(
+    program: &Program<'_, R, E>,
     call: Call,
     budget: u32,
     line_asked: bool,
@@ -86,7 +86,7 @@ fn answer_to<R: Print + Files>(
     let index = match call.read_index(rt, &mut bytes) {
         Ok(n) => &bytes[..n],
         Err(error) => {
-            program.fail("index", error);
+            program.fail(b"index", error);
             return Ok(());
         }
     };
@@ -106,7 +106,7 @@ fn answer_to<R: Print + Files>(
 }
 
 // The call that the argument so many from the end asks for.
-fn call_asked<R: Env>(program: &Program<'_, R>, from_end: usize) -> Call {
+fn call_asked<R: Env, E>(program: &Program<'_, R, E>, from_end: usize) -> Call {
     if program.option_asked(from_end, b"--guarded") {
         Call::Guarded
     } else if program.option_asked(from_end, b"--by-cases") {
@@ -130,7 +130,7 @@ fn words_of(call: Call, line_asked: bool) -> usize {
 }
 
 fn main(rt: HostRuntime) {
-    let program = Program::new(&rt, "judge");
+    let program = Program::new(&rt, b"judge");
     let line_asked = program.option_asked(1, b"--line");
     let call = call_asked(&program, if line_asked { 2 } else { 1 });
     let Some(budget) = program.budget_asked(words_of(call, line_asked)) else {

@@ -6,7 +6,7 @@
 mod descriptor; // the file that the script has open on descriptor 3
 pub mod words; // what the numbers say in words
 
-ghost use Rattle.std.specs.Prelude.{leb, ◌≡◌};
+ghost use Rattle.std.specs.Prelude.{◌<◌, leb, length, take, slice_index, IsErr, IsOkAnd, ◌≡◌};
 ghost use Rattle.std.specs.Io.{ReadsAtMost};
 ghost use Rattle.programs.specs.Stack.{needed};
 
@@ -14,6 +14,7 @@ use descriptor::open_answer;
 pub use descriptor::open_index;
 use meaning::Answer;
 use parsing::limits;
+use std::cell::{BorrowMutError, RefCell};
 use std::env::{Env, FillError};
 use std::fmt::Display;
 use std::fs::File;
@@ -81,63 +82,72 @@ pub fn read_all<R: Read>(input: &mut R, buf: &mut [u8]) -> io::Result<usize>
     Ok(done)
 }
 
-// A program as it runs: what it runs on, standard error, and its name, which lines on standard error begin with.
+// A program as it runs: what it runs on, where its errors go, and its name, which lines of errors begin with.
 #[derive(Drop)]
-pub struct Program<'a, R> {
+pub struct Program<'a, R, E> {
     pub rt: &'a R,
-    pub err: Stderr,
-    name: &'a str,
+    pub err: E,
+    name: &'a [u8],
 }
 
-impl<'a> Program<'a, HostRuntime> {
-    pub fn new(rt: &'a HostRuntime, name: &'a str) -> Self {
-        Program {
-            rt,
-            err: rt.stderr(),
-            name,
-        }
+impl<'a> Program<'a, HostRuntime, Stderr> {
+    // The errors go to standard error.
+    pub fn new(rt: &'a HostRuntime, name: &'a [u8]) -> Self
+        ensures { result.name.now ≡ name.now }
+    {
+        Program::on(rt, rt.stderr(), name)
     }
 }
 
-impl<R> Program<'_, R> {
+impl<'a, R, E> Program<'a, R, E> {
+    // A program on any runtime, whose errors go to anything that prints, or to a writer in `Written`.
+    pub fn on(rt: &'a R, err: E, name: &'a [u8]) -> Self
+        ensures runtime { result.rt.now ≡ rt.now }
+        ensures errors { result.err ≡ err }
+        ensures named { result.name.now ≡ name.now }
+    {
+        Program { rt, err, name }
+    }
+}
+
+impl<R, E: Print> Program<'_, R, E> {
+    // A line that begins with these bytes, which may be no text.
+    fn say_after<D: Display + Drop>(&self, said: &[u8], file: &[u8], text: D) -> io::Result<()> {
+        self.err.write_all(said)?;
+        self.err.write_all(file)?;
+        println!(self.err; ": {text}")
+    }
+
     // A line with the program's name before it.
     pub fn say<D: Display + Drop>(&self, text: D) -> io::Result<()> {
-        let name = self.name;
-        println!(self.err; "{name}: {text}")
+        self.say_after(b"", self.name, text)
+    }
+
+    // The same of a file, or of what failed.
+    fn say_of<D: Display + Drop>(&self, what: &[u8], text: D) -> io::Result<()> {
+        self.err.write_all(self.name)?;
+        self.say_after(b": ", what, text)
     }
 
     // What failed, and why.
-    pub fn fail<D: Display + Drop>(&self, what: D, error: io::Error) {
-        let reason = Reason(error);
-        let _ = self.say(format_args!("{what}: {reason}"));
+    pub fn fail(&self, what: &[u8], error: io::Error) {
+        let _ = self.say_of(what, Reason(error));
     }
 
     // What a budget is.
     pub fn say_budget(&self) {
         let _ = self.say("a budget is a decimal number up to 4294967295");
     }
-
-    // A line that begins with this text and the name of a file, which is written as bytes, since it may be no text.
-    fn say_of<S: Display + Drop, D: Display + Drop>(
-        &self,
-        said: S,
-        file: &[u8],
-        text: D,
-    ) -> io::Result<()> {
-        self.err.print(said)?;
-        self.err.write_all(file)?;
-        println!(self.err; ": {text}")
-    }
 }
 
-impl<R: io::Input> Program<'_, R> {
+impl<R: io::Input, E: Print> Program<'_, R, E> {
     // Reads standard input as far as buf goes. Where it can't be read a line says why.
     pub fn read_input(&self, buf: &mut [u8]) -> io::Result<usize>
         ensures { ReadsAtMost result buf.new }
     {
         let read = read_all(&mut self.rt.reader(), buf);
         if let Err(error) = read {
-            self.fail("standard input", error);
+            self.fail(b"standard input", error);
         }
         read
     }
@@ -152,19 +162,19 @@ impl<R: io::Input> Program<'_, R> {
             return;
         };
         if let Err(error) = answer(&bytes[..n]) {
-            self.fail("standard output", error);
+            self.fail(b"standard output", error);
         }
     }
 }
 
-impl<R: Files> Program<'_, R> {
+impl<R: Files, E: Print> Program<'_, R, E> {
     // Reads the file of this name as far as buf goes. Where it can't be read a line says why, with `said` before the name.
-    pub fn read_file(&self, said: &str, name: &[u8], buf: &mut [u8]) -> io::Result<usize>
+    pub fn read_file(&self, said: &[u8], name: &[u8], buf: &mut [u8]) -> io::Result<usize>
         ensures { ReadsAtMost result buf.new }
     {
         let read = read_named(self.rt, name, buf);
         if let Err(error) = read {
-            let _ = self.say_of(said, name, Reason(error));
+            let _ = self.say_after(said, name, Reason(error));
         }
         read
     }
@@ -177,33 +187,32 @@ impl<R: Files> Program<'_, R> {
             return true;
         }
         let small = TooSmall { needed, limit };
-        let name = self.name;
         let _ = match file {
-            Some(file) => self.say_of(format_args!("{name}: "), file, small),
+            Some(file) => self.say_of(file, small),
             None => self.say(small),
         };
         false
     }
 }
 
-impl<R: Env + Files> Program<'_, R> {
+impl<R: Env + Files, E: Print> Program<'_, R, E> {
     // Reads the file that the program's argument i names, as far as buf goes. Where it can't be read a line says why, with `said` before the
     // file's name, or, where that can't be had, with the program's.
-    pub fn read_argument(&self, said: &str, i: usize, buf: &mut [u8]) -> io::Result<usize>
+    pub fn read_argument(&self, said: &[u8], i: usize, buf: &mut [u8]) -> io::Result<usize>
         ensures { ReadsAtMost result buf.new }
     {
         let mut name = [0u8; NAME_ROOM];
         match self.word_at(i, &mut name) {
             Ok(n) => self.read_file(said, &name[..n], buf),
             Err(error) => {
-                self.fail("file name", error);
+                self.fail(b"file name", error);
                 Err(error)
             }
         }
     }
 }
 
-impl<R: Env> Program<'_, R> {
+impl<R: Env, E> Program<'_, R, E> {
     // How many words the program was started with, its own name among them.
     pub fn word_count(&self) -> usize {
         let mut text = [0u8; 1];
@@ -232,12 +241,12 @@ impl<R: Env> Program<'_, R> {
         &room[..n]
     }
 
-    // Argument i of the program is this word.
+    // Argument i of the program is this word. One that is missing or too long stands for the empty word.
     pub fn is_word(&self, i: usize, word: &[u8]) -> bool {
         let mut text = [0u8; NAME_ROOM];
         match self.word_at(i, &mut text) {
             Ok(n) => &text[..n] == word,
-            Err(_) => false,
+            Err(_) => word.is_empty(),
         }
     }
 
@@ -265,8 +274,8 @@ impl<R: Env> Program<'_, R> {
     }
 }
 
-impl<R: Print + Files> Program<'_, R> {
-    // Prints what a call has written to the start of a room, or for every answer but 0 the answer on standard error. Where the script asks for it, it is
+impl<R: Print + Files, E: Print> Program<'_, R, E> {
+    // Prints what a call has written to the start of a room, or for every answer but 0 the answer where errors go. Where the script asks for it, it is
     // told the answer as well, of which it makes the exit status.
     pub fn put_written(&self, answer: Answer, room: &[u8], told: bool) -> io::Result<()> {
         let numbers = Numbers(answer);
@@ -282,6 +291,37 @@ impl<R: Print + Files> Program<'_, R> {
             return tell(self.rt, numbers);
         }
         Ok(())
+    }
+}
+
+// A writer as a place for errors, which is written through a `&`.
+#[derive(Drop)]
+pub struct Written<W>(pub RefCell<W>);
+
+// The writer is in use only where a value that is printed writes to it itself.
+fn in_use(_: BorrowMutError) -> io::Error {
+    io::Error::from(ErrorKind::ResourceBusy)
+}
+
+impl<W: Write> Print for Written<W> {
+    fn print<D: Display + Drop>(&self, value: D) -> io::Result<()> {
+        let mut writer = self.0.try_borrow_mut().map_err(in_use)?;
+        write!(*writer, "{value}")
+    }
+
+    fn println<D: Display + Drop>(&self, value: D) -> io::Result<()> {
+        let mut writer = self.0.try_borrow_mut().map_err(in_use)?;
+        writeln!(*writer, "{value}")
+    }
+
+    fn write_all(&self, bytes: &[u8]) -> io::Result<()> {
+        let mut writer = self.0.try_borrow_mut().map_err(in_use)?;
+        writer.write_all(bytes)
+    }
+
+    fn write_some(&self, bytes: &[u8]) -> io::Result<usize> {
+        let mut writer = self.0.try_borrow_mut().map_err(in_use)?;
+        writer.write(bytes)
     }
 }
 
@@ -417,7 +457,10 @@ impl Display for Numbers {
 }
 
 // The marks of a request's fluents, at the start of a state. The first byte of a request that was walked is its fluent count.
-pub fn marks_left<'a>(request: &[u8], state: &'a [u8; limits::FLUENTS]) -> io::Result<&'a [u8]> {
+pub fn marks_left<'a>(request: &[u8], state: &'a [u8; limits::FLUENTS]) -> io::Result<&'a [u8]>
+    ensures marks { 0 < length request.now → IsOkAnd result (λ marks. marks.now ≡ take (slice_index request.now 0) state.now) }
+    ensures empty { length request.now ≡ 0 → IsErr result }
+{
     match request.first() {
         Some(fluents) => Ok(&state[..state.len().min(usize::from(*fluents))]),
         None => Err(io::Error::from(ErrorKind::InvalidData)),

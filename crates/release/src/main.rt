@@ -43,7 +43,7 @@ fn answer_plans(
 }
 
 fn main(rt: HostRuntime) {
-    let program = Program::new(&rt, "release");
+    let program = Program::new(&rt, b"release");
     // The program's name is its only other word.
     let Some(budget) = program.budget_asked(1) else {
         program.say_budget();

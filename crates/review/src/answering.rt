@@ -39,9 +39,9 @@ impl<'a> Name<'a> {
     }
 
     // Reads the input as far as buf goes, or says why it can't be read.
-    fn read<R: io::Input + Files>(
+    fn read<R: io::Input + Files, E: Print>(
         self,
-        program: &Program<'_, R>,
+        program: &Program<'_, R, E>,
         buf: &mut [u8],
     ) -> io::Result<usize>
         ensures { ReadsAtMost result buf.new }
@@ -49,7 +49,7 @@ impl<'a> Name<'a> {
         if self.is_standard_input() {
             program.read_input(buf)
         } else {
-            program.read_file("review: ", self.0, buf)
+            program.read_file(b"review: ", self.0, buf)
         }
     }
 }
@@ -62,8 +62,8 @@ fn outcome_of(number: u8) -> Outcome {
 }
 
 // The answer to the request that argument i names. It fails where an answer can't be printed.
-pub fn judge_file<R: Print + io::Input + Env + Files>(
-    program: &Program<'_, R>,
+pub fn judge_file<R: Print + io::Input + Env + Files, E: Print>(
+    program: &Program<'_, R, E>,
     i: usize,
     budget: u32,
 ) -> io::Result<Outcome> {
@@ -87,6 +87,7 @@ pub fn judge_file<R: Print + io::Input + Env + Files>(
     };
     let words = InWords(answer.number).as_str();
     program.rt.write_all(name.said())?;
+    program.rt.print(": ")?;
     // A walk's answer is never about a derivation, so that the request stands for one.
     put_told(program.rt, answer, words, left, request, request)?;
     Ok(outcome_of(answer.number))
@@ -94,13 +95,14 @@ pub fn judge_file<R: Print + io::Input + Env + Files>(
 
 // What the call answers to the request and the derivation that these two arguments name. Both files are read, so that each that can't be is
 // told.
-pub fn check_files<R, F>(
-    program: &Program<'_, R>,
+pub fn check_files<R, E, F>(
+    program: &Program<'_, R, E>,
     files: [usize; 2],
     call: F,
 ) -> io::Result<Outcome>
 where
     R: Print + io::Input + Env + Files,
+    E: Print,
     F: FnOnce(&[u8], &[u8]) -> Answer + Drop,
     requires { F.IsAlwaysCallable call }
 {
@@ -119,14 +121,16 @@ where
     };
     let request = &request[..n];
     let derivation = &derivation[..m];
+    // The names are printed before the derivation is checked.
+    program.rt.write_all(request_name.said())?;
+    program.rt.print(" with ")?;
+    program.rt.write_all(derivation_name.said())?;
+    program.rt.print(": ")?;
     let answer = call(request, derivation);
     let words = match answer.number {
         answers::VERIFIED => "accepted",
         number => InWords(number).as_str(),
     };
-    program.rt.write_all(request_name.said())?;
-    program.rt.print(" with ")?;
-    program.rt.write_all(derivation_name.said())?;
     put_told(program.rt, answer, words, None, request, derivation)?;
     Ok(outcome_of(answer.number))
 }

@@ -84,16 +84,23 @@ fn review_all<F: Fn(usize, usize) -> io::Result<Outcome> + Drop>(
     Ok(tally)
 }
 
-fn say_misused<R>(program: &Program<'_, R>) {
+fn say_misused<R, E: Print>(program: &Program<'_, R, E>) {
     let _ = program.say(
         "judge BUDGET FILE..., check REQUEST DERIVATION... or check-whether REQUEST DERIVATION... is needed",
     );
 }
 
 // The files are those from argument `first` on, and there are as many as whole answers take, which take one each or two.
-fn review_files<R, F>(program: &Program<'_, R>, tallied: bool, first: usize, each: usize, review: F)
+fn review_files<R, E, F>(
+    program: &Program<'_, R, E>,
+    tallied: bool,
+    first: usize,
+    each: usize,
+    review: F,
+)
 where
     R: Print + Env + Files,
+    E: Print,
     F: Fn(usize, usize) -> io::Result<Outcome> + Drop,
     requires each { (1 ≤ each) × (each ≤ 2) }
     requires review { F.IsAlwaysCallable review }
@@ -107,13 +114,13 @@ where
         program.rt, tallied, tally,
     ));
     if let Err(error) = told {
-        program.fail("standard output", error);
+        program.fail(b"standard output", error);
     }
 }
 
 // The command is argument i. The budget of `judge` is the argument after it.
-fn review_from<R: Print + io::Input + Env + Files>(
-    program: &Program<'_, R>,
+fn review_from<R: Print + io::Input + Env + Files, E: Print>(
+    program: &Program<'_, R, E>,
     tallied: bool,
     i: usize,
 )
@@ -139,7 +146,7 @@ fn review_from<R: Print + io::Input + Env + Files>(
 }
 
 fn main(rt: HostRuntime) {
-    let program = Program::new(&rt, "review");
+    let program = Program::new(&rt, b"review");
     let tallied = program.is_word(1, b"--tally");
     review_from(&program, tallied, if tallied { 2 } else { 1 });
 }

@@ -34,7 +34,7 @@ pub fn put_told<'a>(
         left,
         part,
     };
-    println!(rt; ": {told}")
+    println!(rt; "{told}")
 }
 
 impl Display for Told<'_> {

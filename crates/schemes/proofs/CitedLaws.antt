@@ -39,15 +39,19 @@ module _ (marks : State) (c : Sequence ℕ) (Y : Conclusion) (rule : ℕ) (progr
       → Put (line_of marks c Y rule cites ∷ []) progress room progress₁ room₁
   cited_put cites puts underway = record { stands = puts; underway = underway; some = some_added progress room (line_of marks c Y rule cites ∷ []) progress₁ room₁ puts (omega arith) }
 
-  pub next_put : (cites : List ℕ) → cites ≡ [] → (cites₁ : List ℕ) → cites₁ ≡ cites ++ ((progress.lines - 1) ∷ []) → standing progress₁ room₁ ≡ add (standing progress room) (line_of marks c Y rule cites₁ ∷ []) → Underway progress₁
+  -- The rule is put as the byte that says it.
+  by_rule : (byte : ℕ) → byte ≡ rule → (cites : List ℕ) → standing progress₁ room₁ ≡ add (standing progress room) (line_of marks c Y byte cites ∷ []) → standing progress₁ room₁ ≡ add (standing progress room) (line_of marks c Y rule cites ∷ [])
+  by_rule byte same cites puts = puts ∙ ap (λ (n : ℕ). add (standing progress room) (line_of marks c Y n cites ∷ [])) same
+
+  pub next_put : (cites : List ℕ) → cites ≡ [] → (cites₁ : List ℕ) → cites₁ ≡ cites ++ ((progress.lines - 1) ∷ []) → (byte : ℕ) → byte ≡ rule → standing progress₁ room₁ ≡ add (standing progress room) (line_of marks c Y byte cites₁ ∷ []) → Underway progress₁
       → Put (line_of marks c Y rule ((progress.lines - 1) ∷ []) ∷ []) progress room progress₁ room₁
-  next_put cites none cites₁ one puts underway =
+  next_put cites none cites₁ one byte same puts underway =
       let is : cites₁ ≡ (progress.lines - 1) ∷ [] = one ∙ ap (λ (xs : List ℕ). xs ++ ((progress.lines - 1) ∷ [])) none in
-      rw is at (cited_put cites₁ puts underway)
+      rw is at (cited_put cites₁ (by_rule byte same cites₁ puts) underway)
 
   pub composed_put : (first : ℕ) (cites : List ℕ) → cites ≡ [] → (cites₁ : List ℕ) → cites₁ ≡ cites ++ (first ∷ []) → (cites₂ : List ℕ) → cites₂ ≡ cites₁ ++ ((progress.lines - 1) ∷ [])
-      → standing progress₁ room₁ ≡ add (standing progress room) (line_of marks c Y rule cites₂ ∷ []) → Underway progress₁
+      → (byte : ℕ) → byte ≡ rule → standing progress₁ room₁ ≡ add (standing progress room) (line_of marks c Y byte cites₂ ∷ []) → Underway progress₁
       → Put (line_of marks c Y rule (first ∷ (progress.lines - 1) ∷ []) ∷ []) progress room progress₁ room₁
-  composed_put first cites none cites₁ one cites₂ two puts underway =
+  composed_put first cites none cites₁ one cites₂ two byte same puts underway =
       let is : cites₂ ≡ first ∷ (progress.lines - 1) ∷ [] = two ∙ ap (λ (xs : List ℕ). xs ++ ((progress.lines - 1) ∷ [])) (one ∙ ap (λ (xs : List ℕ). xs ++ (first ∷ [])) none) in
-      rw is at (cited_put cites₂ puts underway)
+      rw is at (cited_put cites₂ (by_rule byte same cites₂ puts) underway)

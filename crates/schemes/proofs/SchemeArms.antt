@@ -176,13 +176,15 @@ module _ (s t : List ℕ) (i a : ℕ) (acts : Acts s t i a) (at : ℕ) (follows 
 
     pub sensing_put : (progress : Progress) (room none_cited : List ℕ) → none_cited ≡ [] → (cites : List ℕ) (progress₁ : Progress) (room₁ : List ℕ) (progress₂ : Progress) (room₂ : List ℕ)
         → ReadingsPut (2 ^ length (fluents_from s a f marks)) (readings_at s t a at f marks progress.lines) none_cited progress room cites progress₁ room₁
-        → standing progress₂ room₂ ≡ add (standing progress₁ room₁) (line_of marks (rest_at (plan_in Flags s t) i) (goals_of (request_in Flags s t)) 3 (cites) ∷ [])
+        → (byte : ℕ) → byte ≡ 3 → standing progress₂ room₂ ≡ add (standing progress₁ room₁) (line_of marks (rest_at (plan_in Flags s t) i) (goals_of (request_in Flags s t)) byte (cites) ∷ [])
         → Underway progress₂
         → Put (lines_at s t i marks progress.lines) progress room progress₂ room₂
     unfolding sensing_lines rule_for goals_of
-    sensing_put progress room none_cited empty cites progress₁ room₁ progress₂ room₂ reads then underway =
+    sensing_put progress room none_cited empty cites progress₁ room₁ progress₂ room₂ reads byte same puts underway =
         let x : ReadLines = readings_at s t a at f marks progress.lines in
         let line : List ℕ → List Line = λ ks. line_of marks (rest_at (plan_in Flags s t) i) (goals_of (request_in Flags s t)) 3 ks ∷ [] in
+        let then : standing progress₂ room₂ ≡ add (standing progress₁ room₁) (line cites) =
+        puts ∙ ap (λ (n : ℕ). add (standing progress₁ room₁) (line_of marks (rest_at (plan_in Flags s t) i) (goals_of (request_in Flags s t)) n cites ∷ [])) same in
         let cited_so : add (standing progress₁ room₁) (line cites) ≡ add (standing progress₁ room₁) (line x.lasts) =
         by-test (ltb format.lines progress₁.lines)
         (λ u. let many = ltb-true format.lines progress₁.lines u in over_adds progress₁ room₁ many (line cites) ∙ sym (over_adds progress₁ room₁ many (line x.lasts)))

@@ -51,7 +51,7 @@ fn put_next(
     let mut cites = Cites::none();
     let previous = progress.lines - 1;
     cites.push(previous);
-    put_goals(r, at, marks, rule, &cites, room, progress);
+    put_goals(r, at, marks, u8::from(rule), &cites, room, progress);
 }
 
 // The two lines where nothing is left (FORMAT 24.6).
@@ -84,7 +84,15 @@ fn put_composed(
     let last = progress.lines - 1;
     cites.push(first);
     cites.push(last);
-    put_goals(r, at, marks, Rule::Composition, &cites, room, progress);
+    put_goals(
+        r,
+        at,
+        marks,
+        u8::from(Rule::Composition),
+        &cites,
+        room,
+        progress,
+    );
 }
 
 // The plan from a position on.
@@ -192,7 +200,7 @@ fn put_sensing(
     let f = first_unknown(r, a, marks);
     let mut cites = Cites::none();
     put_readings(r, a, at, f, marks, &mut cites, room, progress);
-    put_goals(r, i, marks, Rule::Sensing, &cites, room, progress);
+    put_goals(r, i, marks, u8::from(Rule::Sensing), &cites, room, progress);
 }
 
 // The readings of fluent f and of the unknown ones above it that the action senses, or of none where f is the limit of fluents; each is followed by the plan from a position

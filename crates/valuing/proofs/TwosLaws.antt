@@ -1,7 +1,7 @@
 -- A list of literals with two bytes each, from its first to its last. Assumes nothing.
 use Prim.Native.Nat.{ℕ, zero, suc, ◌+◌, ◌-◌, ◌*◌, ◌/◌, ◌%◌, ◌≤◌, ◌<◌}
 use native.Mathlib.Omega.{arith}
-use mathlib.Core.Path.{◌≡◌, refl, ap, subst}
+use mathlib.Core.Path.{◌≡◌, refl, ◌∙◌, ap, subst}
 use mathlib.Core.List.{List, [], ◌∷◌}
 use mathlib.Core.Logic.{inl, inr}
 use lib.ListN.{length, get_or}
@@ -80,6 +80,32 @@ twos_over s at (suc left) h = absurd (omega arith)
 
 pub twos_whole : (s : List ℕ) (p count : ℕ) → count ≡ get_or s p 0 → twos_from s (p + 1) count ≡ twos_from s (p + 1) (get_or s p 0)
 twos_whole s p count e = ap (twos_from s (p + 1)) e
+
+-- The literals from number k on of the list at p.
+module _ (s : List ℕ) (p k : ℕ) (more : k < get_or s p 0) where
+  pub at_number : TwosLeft s p (p + 1 + 2 * k) (get_or s p 0 - k)
+  at_number = record { from = omega arith; to = omega (arith, more) }
+
+  pub some_left : 0 < get_or s p 0 - k
+  some_left = omega (arith, more)
+
+  pub number_next : (l : ℕ) → l ≡ get_or s (p + 1 + 2 * k) 0 * 256 + get_or s (p + 1 + 2 * k + 1) 0
+      → twos_from s (p + 1 + 2 * k) (get_or s p 0 - k) ≡ l ∷ twos_from s (p + 1 + 2 * (k + 1)) (get_or s p 0 - (k + 1))
+  number_next l is =
+      let place : p + 1 + 2 * k + 2 ≡ p + 1 + 2 * (k + 1) = omega arith in
+      let fewer : get_or s p 0 - k - 1 ≡ get_or s p 0 - (k + 1) = omega arith in
+      twos_next s (p + 1 + 2 * k) (get_or s p 0 - k) l some_left is
+      ∙ ap (λ (at : ℕ). l ∷ twos_from s at (get_or s p 0 - k - 1)) place
+      ∙ ap (λ (left : ℕ). l ∷ twos_from s (p + 1 + 2 * (k + 1)) left) fewer
+
+pub number_first : (s : List ℕ) (p : ℕ) → twos_from s (p + 1 + 2 * 0) (get_or s p 0 - 0) ≡ twos_from s (p + 1) (get_or s p 0)
+number_first s p =
+    let place : p + 1 + 2 * 0 ≡ p + 1 = omega arith in
+    let all : get_or s p 0 - 0 ≡ get_or s p 0 = omega arith in
+    ap (λ (at : ℕ). twos_from s at (get_or s p 0 - 0)) place ∙ ap (λ (left : ℕ). twos_from s (p + 1) left) all
+
+pub number_last : (s : List ℕ) (p k : ℕ) → get_or s p 0 ≤ k → twos_from s (p + 1 + 2 * k) (get_or s p 0 - k) ≡ []
+number_last s p k over = twos_over s (p + 1 + 2 * k) (get_or s p 0 - k) (omega (arith, over))
 
 -- Each literal of a list that stands at p.
 twos_ranged : (s : List ℕ) (p : ℕ) → ValuesHere s p → (left at : ℕ) → TwosLeft s p at left → (l : ℕ) → Has (twos_from s at left) l → (l < 32768) × (l % 256 < 32)

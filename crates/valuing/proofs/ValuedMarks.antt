@@ -99,8 +99,8 @@ module _ (s marks : List ℕ) (so : ValuedMarks s marks) (l mark : ℕ) (is : ma
       let some = eqb-false mark 0 f in
       sym (known_satisfied some ∙ pick_true _ _ _ (eq-eqb (l % 2) 0 even) ∙ one_less some (l % 256 / 2)))
 
-  pub known_unknown : mark ≡ 0 → not (eqb mark 0) ≡ known (literals_in s) marks l
-  known_unknown none = ap not (eq-eqb _ _ none) ∙ sym (unknown_not none)
+  pub known_unknown : mark ≡ 0 → false ≡ known (literals_in s) marks l
+  known_unknown none = sym (unknown_not none)
 
 -- What is known is possible.
 known_possible : (s marks : List ℕ) → ValuedMarks s marks → (l : ℕ) → known (literals_in s) marks l ≡ true → possible (literals_in s) marks l ≡ true

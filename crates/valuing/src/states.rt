@@ -29,10 +29,12 @@ pub fn known(s: &[u8], marks: &Marks, l: usize) -> bool
     let mark = wide(marks[l / 256]);
     let said = l % 256 / 2 + 1;
     if l % 2 == 0 {
-        mark == said
-    } else {
-        mark != 0 && mark != said
+        return mark == said;
     }
+    if mark == 0 {
+        return false;
+    }
+    mark != said
 }
 
 // Each literal of the list at p.
@@ -56,8 +58,10 @@ pub fn look_at(s: &[u8], marks: &Marks, p: usize) -> Look
     ensures { result ≡ look_values s.now marks.now (listed_as Valued s.now p) }
 {
     let mut sure = true;
-    for pair in listed_in_twos(s, p).chunks_exact(2) {
-        let l = two(pair[0], pair[1]);
+    // Kept: by place, since to go over a short list in pairs of bytes takes longer, and most bodies are short (D225).
+    for k in 0..wide(s[p]) {
+        let at = p + 1 + 2 * k;
+        let l = two(s[at], s[at + 1]);
         if known(s, marks, l) {
             continue;
         }

@@ -82,6 +82,13 @@ module _ (P : State → Type 0) where
       (walk_so _ _ P (λ _. Unit {0}) step keeps stuck broken (plan_in form s t) (on_places (λ _. Unit {0}) (λ _. tt) (plan_in form s t)) (judged_in form s t)
       (λ u has. end_of_so _ _ (missed_as form s t u) u (λ p _. has))) (first_in form s) first
 
+-- What has the one has the other too, where each state that has the one does.
+pub end_weaker : (P Q : State → Type 0) → ((s : State) → P s → Q s) → (e : End State) → EndHas P e → EndHas Q e
+end_weaker P Q also fine p = tt
+end_weaker P Q also (missed i s) p = also s p
+end_weaker P Q also (stopped n i no_state) p = tt
+end_weaker P Q also (stopped n i (in_state s)) p = also s p
+
 -- An end that has the one and the other has both.
 pub end_both : (P Q : State → Type 0) (e : End State) → EndHas P e → EndHas Q e → EndHas (λ (s : State). P s × Q s) e
 end_both P Q fine p q = tt

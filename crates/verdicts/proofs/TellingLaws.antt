@@ -9,7 +9,7 @@ use Rattle.meaning.specs.Walk.{in_state}
 use Rattle.meaning.specs.Judging.{Judgement, written_over, reported, count_told, ended}
 use Rattle.walking.specs.declared.tally.Tally.{Tally}
 use Rattle.walking.specs.declared.tally.Course.{Course}
-use Rattle.walking.specs.declared.tally.Course.TheVariants.{Fine, Missed, Stuck, Broken, TooWide, TooMany, Spent}
+use Rattle.walking.specs.declared.tally.Course.TheVariants.{Fine, Missed, Stuck, Broken, Other, TooWide, TooMany, Spent}
 use Rattle.walking.specs.Standing.{stands, standing}
 use Rattle.verdicts.specs.Telling.{told, is_spent, Tallied}
 
@@ -39,6 +39,10 @@ module _ (tally : Tally) (budget : ℕ) where
     pub tell_broken : tally.course ≡ Broken → said ≡ reported lent (budget - tally.left) 43 tally.place (in_state tally.marks) → said ≡ told lent budget (standing tally)
     unfolding stands told ended count_told
     tell_broken is says = told_as Broken is says
+
+    pub tell_other : (number : ℕ) → tally.course ≡ Other number → said ≡ reported lent (budget - tally.left) number tally.place (in_state tally.marks) → said ≡ told lent budget (standing tally)
+    unfolding stands told ended count_told
+    tell_other number is says = told_as (Other number) is says
 
   -- Without a state.
   module _ (lent : List ℕ) (answer : Answer) where

@@ -30,10 +30,10 @@ use Rattle.steps.proofs.HandLaws.{starts, facts_here}
 use Rattle.steps.proofs.FirstLaws.{first_valued, walks_first}
 use Rattle.walking.specs.declared.tally.Tally.{Tally}
 use Rattle.walking.specs.declared.tally.Course.{Course}
-use Rattle.walking.specs.declared.tally.Course.TheVariants.{Fine, Missed, Stuck, Broken, TooWide, TooMany, Spent}
+use Rattle.walking.specs.declared.tally.Course.TheVariants.{Fine, Missed, Stuck, Broken, Other, TooWide, TooMany, Spent}
 use Rattle.walking.specs.Standing.{Standing, spent, so_far, spend, add, stands, standing}
 use Rattle.verdicts.specs.Telling.{told, is_spent, Tallied}
-use Rattle.verdicts.proofs.MarkedLaws.{first_as}
+use Rattle.verdicts.proofs.MarkedLaws.{first_as, EndSmall, held_small}
 use Rattle.meaning.specs.declared.Form.{Form}
 use Rattle.meaning.specs.declared.Form.TheVariants.{Valued}
 
@@ -52,6 +52,13 @@ left_same {l} is = ap left is
     left spent = l
     left (so_far m e) = m
 
+end_same : {l m : ℕ} {d e : End State} → so_far l d ≡ so_far m e → d ≡ e
+end_same {d = d} is = ap end is
+  where
+    end : Standing → End State
+    end spent = d
+    end (so_far m e) = e
+
 -- Where the budget is not spent, it stands so far.
 stands_so_far : (c : Course) (left p : ℕ) (marks : State) → is_spent c ≡ false → (e : End State) × (stands c left p marks ≡ so_far left e)
 unfolding stands
@@ -59,6 +66,7 @@ stands_so_far Fine left p marks some = (fine, refl)
 stands_so_far Missed left p marks some = (missed p marks, refl)
 stands_so_far Stuck left p marks some = (stopped Limits.not_executable p (in_state marks), refl)
 stands_so_far Broken left p marks some = (stopped Limits.guard_broken p (in_state marks), refl)
+stands_so_far (Other n) left p marks some = (stopped n p (in_state marks), refl)
 stands_so_far TooWide left p marks some = (stopped Limits.sensing_too_wide p no_state, refl)
 stands_so_far TooMany left p marks some = (stopped Limits.too_many_cases p no_state, refl)
 stands_so_far Spent left p marks some = clash refl some
@@ -66,6 +74,10 @@ stands_so_far Spent left p marks some = clash refl some
 stands_left : (tally : Tally) → is_spent tally.course ≡ false → (e : End State) × (standing tally ≡ so_far tally.left e)
 unfolding standing
 stands_left tally some = stands_so_far tally.course tally.left tally.place tally.marks some
+
+stands_other : (tally : Tally) (number : ℕ) → tally.course ≡ Other number → standing tally ≡ so_far tally.left (stopped number tally.place (in_state tally.marks))
+unfolding standing stands
+stands_other tally number is = ap (λ (c : Course). stands c tally.left tally.place tally.marks) is
 
 -- A WALK of the whole budget: what is told of it is what the definition says.
 module _ (budget : ℕ) (w : Walked State) where
@@ -88,13 +100,18 @@ module _ (budget : ℕ) (w : Walked State) where
       ap (told lent budget) (spends_within below) ∙ ap (λ (c : ℕ). ended lent c w.end) counted ∙ sym (pick_false (ltb budget w.count) _ _ below))
 
   -- The tally after it.
-  tallied : (tally : Tally) → standing tally ≡ spend budget (λ e. e) w → Tallied tally budget
-  tallied tally is = record {
+  tallied : (tally : Tally) → standing tally ≡ spend budget (λ e. e) w → EndSmall w.end → Tallied tally budget
+  tallied tally is small = record {
     fewer = λ some.
         let left = stands_left tally some in
         by-test (ltb budget w.count)
         (λ above. absurd (so_far≢spent (sym left.1 ∙ is ∙ spends_above above)))
         (λ below. let same : tally.left ≡ budget - w.count = left_same (sym left.1 ∙ is ∙ spends_within below) in omega (arith, same));
+    small = λ number other.
+        let stopped_so = sym (stands_other tally number other) ∙ is in
+        by-test (ltb budget w.count)
+        (λ above. absurd (so_far≢spent (stopped_so ∙ spends_above above)))
+        (λ below. subst EndSmall (sym (end_same (stopped_so ∙ spends_within below))) small);
   }
 
 -- THE WALK of a request at hand, from its first state.
@@ -106,7 +123,7 @@ module _ (form : Form) (s t : List ℕ) (here : AtHand form s t) (items at : ℕ
   stands_so = walks ∙ ap (λ (a : Standing). add a (met_from form s t at marks)) opens ∙ ap (spend budget (λ e. e)) (walks_first s t here items at counted starts marks is)
 
   pub plan_tallied : Tallied after budget
-  plan_tallied = tallied budget (walk_held form s t) after stands_so
+  plan_tallied = tallied budget (walk_held form s t) after stands_so (held_small form s t)
 
   pub plan_judged : (lent left : List ℕ) (answer : Answer) → record { answer = answer; state = left } ≡ told lent budget (standing after)
       → record { answer = answer; state = left } ≡ within lent budget (walk_held form s t)

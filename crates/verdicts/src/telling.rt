@@ -48,6 +48,7 @@ pub(crate) fn tell(tally: &Tally, state: &mut [u8], budget: u32) -> Answer
         Course::Missed => report(answers::GOAL_MISSED, tally, state, budget),
         Course::Stuck => report(answers::NOT_EXECUTABLE, tally, state, budget),
         Course::Broken => report(answers::GUARD_BROKEN, tally, state, budget),
+        Course::Other(number) => report(number as u8, tally, state, budget),
         Course::TooWide => uncounted(answers::SENSING_TOO_WIDE, answers::THE_REQUEST, tally.place),
         Course::TooMany => uncounted(answers::TOO_MANY_CASES, answers::THE_REQUEST, tally.place),
         Course::Spent => unplaced(answers::BUDGET_SPENT, budget),

@@ -1,7 +1,7 @@
 -- The walk ends: at each call the position rises, or the same position is met with a higher fluent. Assumes nothing.
 use Prim.Native.Nat.{ℕ, ◌+◌, ◌-◌, ◌*◌, ◌≤◌, ◌<◌}
 use native.Mathlib.Omega.{arith}
-use mathlib.Core.Path.{◌≡◌, sym, ◌∙◌, ap}
+use mathlib.Core.Path.{◌≡◌, sym, ◌∙◌, ap, subst}
 use mathlib.Core.List.{List}
 use lib.ListN.{get_or}
 use Rattle.std.specs.Prelude.{Option, Some}
@@ -55,9 +55,16 @@ branching_walk_falls s t i marks f q μ is chosen taken = let h = chosen.later q
 pub follow_falls : {form : Form} (s t : List ℕ) (i r : ℕ) → Followed form s t i r → i < format.items → format.items - r < format.items - i
 follow_falls s t i r follows near = let h = follows.later in omega arith
 
+-- A fluent is within their number or not.
+pub near_far : (g n : ℕ) → g < n → n ≤ g → ⊥
+near_far g n near far = omega arith
+
 -- What the calls require.
 pub followed_position : {form : Form} (s t : List ℕ) (i r : ℕ) → Followed form s t i r → Position (plan_in form s t) r
 followed_position s t i r follows = follows.at
+
+pub followed_as : {form : Form} (s t : List ℕ) (i r q : ℕ) → r ≡ q → Followed form s t i q → Followed form s t i r
+followed_as {form} s t i r q is follows = subst (Followed form s t i) (sym is) follows
 
 pub chosen_position : {form : Form} (s t : List ℕ) (i : ℕ) (marks : State) (f : Option ℕ) (q : ℕ) → Chosen form s t i marks f → f ≡ Some q → Position (plan_in form s t) q
 chosen_position s t i marks f q chosen taken = chosen.at q taken

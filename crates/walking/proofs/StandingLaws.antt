@@ -5,18 +5,19 @@ use native.Mathlib.Omega.{arith}
 use mathlib.Core.Path.{◌≡◌, refl, sym, ◌∙◌, ap}
 use mathlib.Core.Bool.{Bool, true, false}
 use mathlib.Core.Logic.{◌⊎◌, ⊎_elim}
-use lib.Dec.{ltb}
-use borrow.Author.Tests.{ltb-true, ltb-false, lt-ltb, le-ltb}
-use Rattle.meaning.specs.Tests.{both}
+use lib.Dec.{eqb, ltb}
+use borrow.Author.Tests.{eqb-false, eq-eqb, ne_eqb, ltb-true, ltb-false, lt-ltb, le-ltb}
+use Rattle.meaning.specs.Tests.{both, either}
+use Rattle.meaning.specs.Limits
 use Rattle.meaning.specs.Refusals
 use Rattle.meaning.specs.Refusals.{nowhere, at}
 use Rattle.meaning.specs.States.{State}
-use Rattle.meaning.specs.Walk.{Concerned, no_state, End, fine, missed, stopped, Walked, stopped_at, counted, keep_miss, after_miss, after_end, and_then, end_of}
+use Rattle.meaning.specs.Walk.{Concerned, no_state, in_state, End, fine, missed, stopped, Walked, stopped_at, counted, keep_miss, after_miss, after_end, and_then, end_of}
 use Rattle.meaning.proofs.TestLaws.{by-test, clash, pick_true, pick_false}
 use Rattle.walking.specs.declared.tally.Tally.{Tally}
 use Rattle.walking.specs.declared.tally.Course.{Course}
-use Rattle.walking.specs.declared.tally.Course.TheVariants.{Fine, Missed, Stuck, Broken, TooWide, TooMany, Spent}
-use Rattle.walking.specs.Standing.{Standing, spent, so_far, spend, add, one, stands, standing, number_of, stateless, goes_on, Going}
+use Rattle.walking.specs.declared.tally.Course.TheVariants.{Fine, Missed, Stuck, Broken, Other, TooWide, TooMany, Spent}
+use Rattle.walking.specs.Standing.{Standing, spent, so_far, spend, add, one, stands, standing, number_of, stateless, stateless_number, Notable, end_by, goes_on, Going}
 
 -- SPENDING. A walk within what is left, or above it.
 spend_within : (left : ℕ) (then : End State → End State) (w : Walked State) → w.count ≤ left → spend left then w ≡ so_far (left - w.count) (then w.end)
@@ -98,6 +99,7 @@ stands_over Fine left p s off w = clash refl off
 stands_over Missed left p s off w = clash refl off
 stands_over Stuck left p s off w = refl
 stands_over Broken left p s off w = refl
+stands_over (Other n) left p s off w = refl
 stands_over TooWide left p s off w = refl
 stands_over TooMany left p s off w = refl
 stands_over Spent left p s off w = refl
@@ -113,6 +115,7 @@ stands_on C Fine left p s on f g = f
 stands_on C Missed left p s on f g = g p s
 stands_on C Stuck left p s on f g = clash on refl
 stands_on C Broken left p s on f g = clash on refl
+stands_on C (Other n) left p s on f g = clash on refl
 stands_on C TooWide left p s on f g = clash on refl
 stands_on C TooMany left p s on f g = clash on refl
 stands_on C Spent left p s on f g = clash on refl
@@ -149,6 +152,7 @@ module _ (left p : ℕ) (s : State) (f : Refusals.Found) (u : State) where
   stands_kept Missed some = sym kept_missed
   stands_kept Stuck some = refl
   stands_kept Broken some = refl
+  stands_kept (Other n) some = refl
   stands_kept TooWide some = refl
   stands_kept TooMany some = refl
   stands_kept Spent some = refl
@@ -164,6 +168,7 @@ counted_on Fine left p s on some = sym (spend_within left (λ x. x) one some)
 counted_on Missed left p s on some = sym (spend_within left (keep_miss p s) one some)
 counted_on Stuck left p s on some = clash on refl
 counted_on Broken left p s on some = clash on refl
+counted_on (Other n) left p s on some = clash on refl
 counted_on TooWide left p s on some = clash on refl
 counted_on TooMany left p s on some = clash on refl
 counted_on Spent left p s on some = clash on refl
@@ -185,6 +190,35 @@ pub noted : (tally : Tally) (c : Course) (place : ℕ) (marks : State) → stand
 unfolding standing
 noted tally c place marks = refl
 
+-- What may be noted by its number.
+stateless_not : (number : ℕ) → eqb number Limits.sensing_too_wide ≡ false → eqb number Limits.too_many_cases ≡ false → stateless_number number ≡ false
+unfolding stateless_number either
+stateless_not number wide many = rw (wide, many) refl
+
+pub notable : (number : ℕ) → 1 ≤ number → eqb number 3 ≡ false → eqb number Limits.sensing_too_wide ≡ false → eqb number Limits.too_many_cases ≡ false → Notable number
+notable number least other wide many = record { some = least; within = eqb-false number 3 other; stated = stateless_not number wide many }
+
+-- By a number: a miss, or what stops the walk.
+pub by_missed : (number : ℕ) → number ≡ Limits.goal_missed → (left place : ℕ) (marks : State) → stands Missed left place marks ≡ so_far left (end_by number place marks)
+unfolding stands end_by
+by_missed number is left place marks = ap (so_far left) (sym (pick_true _ _ _ (eq-eqb number Limits.goal_missed is)))
+
+by_stop : (number : ℕ) → (number ≡ Limits.goal_missed → ⊥) → (left place : ℕ) (marks : State) → so_far left (stopped number place (in_state marks)) ≡ so_far left (end_by number place marks)
+unfolding end_by
+by_stop number more left place marks = ap (so_far left) (sym (pick_false _ _ _ (ne_eqb number Limits.goal_missed more)))
+
+pub by_stuck : (number : ℕ) → number ≡ Limits.not_executable → (left place : ℕ) (marks : State) → stands Stuck left place marks ≡ so_far left (end_by number place marks)
+unfolding stands
+by_stuck number is left place marks = ap (λ (n : ℕ). so_far left (stopped n place (in_state marks))) (sym is) ∙ by_stop number (λ e. omega (arith, e, is)) left place marks
+
+pub by_broken : (number : ℕ) → number ≡ Limits.guard_broken → (left place : ℕ) (marks : State) → stands Broken left place marks ≡ so_far left (end_by number place marks)
+unfolding stands
+by_broken number is left place marks = ap (λ (n : ℕ). so_far left (stopped n place (in_state marks))) (sym is) ∙ by_stop number (λ e. omega (arith, e, is)) left place marks
+
+pub by_other : (number : ℕ) → (number ≡ Limits.goal_missed → ⊥) → (left place : ℕ) (marks : State) → stands (Other number) left place marks ≡ so_far left (end_by number place marks)
+unfolding stands
+by_other number more left place marks = by_stop number more left place marks
+
 -- Too many readings or cases.
 gives_up : (c : Course) (left place : ℕ) (s : State) → stateless c ≡ true → stands c left place s ≡ so_far left (stopped (number_of c) place no_state)
 unfolding stateless stands number_of
@@ -192,6 +226,7 @@ gives_up Fine left p s none = clash none refl
 gives_up Missed left p s none = clash none refl
 gives_up Stuck left p s none = clash none refl
 gives_up Broken left p s none = clash none refl
+gives_up (Other n) left place s none = clash none refl
 gives_up TooWide left p s none = refl
 gives_up TooMany left p s none = refl
 gives_up Spent left p s none = clash none refl
@@ -220,6 +255,7 @@ on_other Fine nothing something = absurd (nothing refl)
 on_other Missed nothing something = absurd (something refl)
 on_other Stuck nothing something = refl
 on_other Broken nothing something = refl
+on_other (Other n) nothing something = refl
 on_other TooWide nothing something = refl
 on_other TooMany nothing something = refl
 on_other Spent nothing something = refl

@@ -1,13 +1,13 @@
 -- How a walk stands within its budget, and what the walk of a part adds to that. The defined walk knows no budget; this ties the two.
-use Rattle.std.specs.Prelude.{ℕ, ◌-◌, ◌≡◌, Bool, true, false, ltb}
-use Rattle.meaning.specs.Tests.{pick}
+use Rattle.std.specs.Prelude.{ℕ, ◌-◌, ◌≤◌, ◌≡◌, Bool, true, false, eqb, ltb}
+use Rattle.meaning.specs.Tests.{either, pick}
 use Rattle.meaning.specs.Limits
 use Rattle.meaning.specs.Refusals.{Found, nowhere, at}
 use Rattle.meaning.specs.States.{State}
 use Rattle.meaning.specs.Walk.{no_state, in_state, End, fine, missed, stopped, Walked, keep_miss}
 use Rattle.walking.specs.declared.tally.Tally.{Tally}
 use Rattle.walking.specs.declared.tally.Course.{Course}
-use Rattle.walking.specs.declared.tally.Course.TheVariants.{Fine, Missed, Stuck, Broken, TooWide, TooMany, Spent}
+use Rattle.walking.specs.declared.tally.Course.TheVariants.{Fine, Missed, Stuck, Broken, Other, TooWide, TooMany, Spent}
 
 -- The budget is spent; or so much is left, and the walk so far ended so.
 pub data Standing : Type 0 where
@@ -36,6 +36,7 @@ stands Fine left p s = so_far left fine
 stands Missed left p s = so_far left (missed p s)
 stands Stuck left p s = so_far left (stopped Limits.not_executable p (in_state s))
 stands Broken left p s = so_far left (stopped Limits.guard_broken p (in_state s))
+stands (Other n) left p s = so_far left (stopped n p (in_state s))
 stands TooWide left p s = so_far left (stopped Limits.sensing_too_wide p no_state)
 stands TooMany left p s = so_far left (stopped Limits.too_many_cases p no_state)
 stands Spent left p s = spent
@@ -49,6 +50,7 @@ number_of Fine = Limits.verified
 number_of Missed = Limits.goal_missed
 number_of Stuck = Limits.not_executable
 number_of Broken = Limits.guard_broken
+number_of (Other n) = n
 number_of TooWide = Limits.sensing_too_wide
 number_of TooMany = Limits.too_many_cases
 number_of Spent = Limits.budget_spent
@@ -59,9 +61,24 @@ stateless Fine = false
 stateless Missed = false
 stateless Stuck = false
 stateless Broken = false
+stateless (Other n) = false
 stateless TooWide = true
 stateless TooMany = true
 stateless Spent = false
+
+-- Of numbers these are 37 and 44.
+unfoldable pub stateless_number : (number : ℕ) → Bool
+stateless_number number = either (eqb number Limits.sensing_too_wide) (eqb number Limits.too_many_cases)
+
+-- What may be noted with a state: not 0, by which nothing is missed, not 3, by which the budget is spent, and neither 37 nor 44, which concern none.
+pub record Notable (number : ℕ) : Type 0 where
+  pub some : 1 ≤ number
+  pub within : number ≡ Limits.budget_spent → ⊥
+  pub stated : stateless_number number ≡ false
+
+-- What is noted by a number: a miss, or what stops the walk.
+unfoldable pub end_by : (number place : ℕ) → State → End State
+end_by number p s = pick (eqb number Limits.goal_missed) (λ _. missed p s) (λ _. stopped number p (in_state s))
 
 -- Neither stopped nor spent: nothing is missed, or something is.
 unfoldable pub goes_on : Course → Bool
@@ -69,6 +86,7 @@ goes_on Fine = true
 goes_on Missed = true
 goes_on Stuck = false
 goes_on Broken = false
+goes_on (Other n) = false
 goes_on TooWide = false
 goes_on TooMany = false
 goes_on Spent = false

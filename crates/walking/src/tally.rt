@@ -1,22 +1,50 @@
 // What a walk has counted, and how it stands.
-ghost use Rattle.std.specs.Prelude.{◌≡◌, true};
+ghost use Rattle.std.specs.Prelude.{ℕ, ◌≡◌, true};
+ghost use Rattle.meaning.specs.States.{State};
 ghost use Rattle.meaning.specs.Walk.{fine, no_state, stopped};
-ghost use Rattle.walking.specs.Standing.{so_far, add, one, standing, stands, number_of, stateless, goes_on, Going};
+ghost use Rattle.walking.specs.Standing.{so_far, add, one, standing, stands, number_of, stateless, Notable, end_by, goes_on, Going};
 
 use parsing::limits;
 use reading::marks::Marks;
 
+// The answers' numbers that `Course::of` has a course of its own for.
+// Kept: a course is given for any number that may be noted, as `note` took any (D223).
+pub const MISSED: u32 = 1;
+
+// Kept: as above.
+pub const STUCK: u32 = 2;
+
+// Kept: as above.
+pub const BROKEN: u32 = 43;
+
 // How a walk has gone so far: nothing is missed; or something is, after which it goes on; or what has stopped it, which is an action or a
-// branching that can't be run, a guard that is broken, an action that is too wide or has too many cases, or that the budget is spent.
+// branching that can't be run, a guard that is broken, what another answer's number says of a state, an action that is too wide or has too
+// many cases, or that the budget is spent. This walk itself is stopped by no other answer's number.
 #[derive(Clone, Copy)]
 pub enum Course {
     Fine,
     Missed,
     Stuck,
     Broken,
+    Other(u32),
     TooWide,
     TooMany,
     Spent,
+}
+
+impl Course {
+    // What an answer's number says of a state: a miss, or what stops the walk there.
+    pub fn of(number: u32) -> Course
+        requires { Notable number }
+        ensures { (left place : ℕ) → (marks : State) → stands result left place marks ≡ so_far left (end_by number place marks) }
+    {
+        match number {
+            MISSED => Course::Missed,
+            STUCK => Course::Stuck,
+            BROKEN => Course::Broken,
+            other => Course::Other(other),
+        }
+    }
 }
 
 // How a walk stands: the budget left, how it has gone so far, and the place and the state that go with a miss or with what has stopped it.

@@ -160,10 +160,13 @@ fn higher_values<S: Acts>(r: &Request<S>, i: usize, f: usize, marks: Marks, tall
     ensures { standing tally.new ≡ add_higher S.FORM r.now.bytes.now r.now.notes.now i f marks (standing tally.old) }
 {
     let mut state = marks;
+    if !has_more(r, f, state[f], tally) {
+        return;
+    }
     let p = get(r.notes, notes::ITEM_PLACE + i);
     let a = wide(r.bytes[p]);
     let g = next_unknown(r, a, f + 1, &state);
-    let at = follow(r, i);
+    let at = if g < limits::FLUENTS { i } else { follow(r, i) };
     while has_more(r, f, state[f], tally) {
         state[f] += 1;
         if g < limits::FLUENTS {

@@ -1,16 +1,33 @@
--- Citations as they are put, behind their number. Assumes nothing.
-use Prim.Native.Nat.{ℕ, suc, ◌+◌, ◌*◌, ◌≤◌, ◌<◌}
+-- Citations as they are held, and as they are put, behind their number. Assumes nothing.
+use Prim.Native.Nat.{ℕ, suc, ◌+◌, ◌-◌, ◌*◌, ◌≤◌, ◌<◌}
 use native.Mathlib.Omega.{arith}
 use mathlib.Core.Path.{◌≡◌, refl, sym, ◌∙◌, ap, ap₂}
 use mathlib.Core.List.{List, [], ◌∷◌}
-use lib.ListN.{length, get_or, drop, set, length-set}
-use lib.Seq.{sets, length-sets, drop-cons}
+use lib.ListN.{length, get_or, take, drop, replicate, set, length-set}
+use lib.Seq.{sets, length-sets, length-take-le, drop-cons, drop-set-lt}
 use mir.Syntax.{w64}
 use mir.Val.{Fits}
-use Rattle.std.proofs.lemmas.List.{drop_all}
+use Rattle.std.proofs.lemmas.List.{drop_all, drop-drop, drop-replicate}
 use Rattle.meaning.specs.Limits.{format}
 use Rattle.meaning.specs.Layouts.{number_written, numbers_written}
 
+-- THE PLACES behind the lines that are cited hold 0. One more line goes into the first of them.
+module _ (count : ℕ) (held : List ℕ) (few : count ≤ format.citations) (sized : length held ≡ format.citations) (none : drop count held ≡ replicate (format.citations - count) 0)
+    (cites : List ℕ) (is : take count held ≡ cites) (room : length cites < format.citations) where
+  room_left : count < format.citations
+  room_left = let long = length-take-le count held (omega (arith, few, sized)) in let same = ap length is in omega (arith, long, same, room)
+
+  none_behind : (line : ℕ) → drop (count + 1) (set held count line) ≡ replicate (format.citations - (count + 1)) 0
+  none_behind line =
+      let left = room_left in
+      let less : format.citations - count - 1 ≡ format.citations - (count + 1) = omega arith in
+      drop-set-lt (count + 1) held count line (omega arith)
+      ∙ (sym (drop-drop 1 count held) ∙ (ap (drop 1) none ∙ (drop-replicate 1 (format.citations - count) 0 ∙ ap (λ (n : ℕ). replicate n 0) less)))
+
+  pub one_more : (line : ℕ) → (count + 1 ≤ format.citations) × (length (set held count line) ≡ format.citations) × (drop (count + 1) (set held count line) ≡ replicate (format.citations - (count + 1)) 0)
+  one_more line = let left = room_left in (omega (arith, left), length-set held count line ∙ sized, none_behind line)
+
+-- THEIR BYTES.
 pub numbers_length : (ks : List ℕ) → length (numbers_written ks) ≡ 2 * length ks
 unfolding numbers_written number_written
 numbers_length [] = refl

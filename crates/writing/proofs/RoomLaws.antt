@@ -1,15 +1,13 @@
 -- What is put into a room: a number, a part of an input, and what a state knows. What is still to be stored makes of the room what all of it makes of the room as it was
 -- lent. Assumes nothing.
-use Prim.Native.Nat.{ℕ, zero, suc, min, ◌+◌, ◌-◌, ◌*◌, ◌/◌, ◌%◌, ◌≤◌, ◌<◌}
+use Prim.Native.Nat.{ℕ, suc, min, ◌+◌, ◌-◌, ◌*◌, ◌/◌, ◌%◌, ◌≤◌, ◌<◌}
 use native.Mathlib.Omega.{arith}
 use mathlib.Core.Path.{◌≡◌, refl, sym, ◌∙◌, ap, ap₂}
-use mathlib.Core.List.{List, [], ◌∷◌, ◌++◌, append_assoc}
-use lib.ListN.{length, get_or, take, drop, set, length-set, length-drop}
-use lib.Seq.{sets, sets-eq, length-take-le, take-nil}
+use mathlib.Core.List.{List, [], ◌∷◌}
+use lib.ListN.{length, get_or, take, drop, set, length-set}
+use lib.Seq.{sets}
 use lib.Dec.{ltb}
 use borrow.Author.Tests.{ltb-true, ltb-false}
-use borrow.Rule.Slice.PartMut.{put_mid}
-use Rattle.std.proofs.lemmas.List.{take-append-drop, take-take, drop-drop}
 use Rattle.meaning.proofs.TestLaws.{by-test}
 use mir.Syntax.{w8, w64}
 use mir.Val.{Fits}
@@ -17,7 +15,7 @@ use Rattle.meaning.specs.Limits.{format}
 use Rattle.meaning.specs.Derivations.{literals_of}
 use Rattle.meaning.specs.Layouts.{list_written, number_written}
 use Rattle.steps.specs.AtHand.{Marked}
-use Rattle.steps.proofs.StoreLaws.{store_before, stores_out}
+use Rattle.steps.proofs.StoreLaws.{store_before, stores_out, part_first, part_none}
 use Rattle.steps.proofs.KnownLists.{known_above, known_far, unmarked_step, marked_step}
 
 -- A NUMBER.
@@ -25,52 +23,47 @@ pub number_put : (room mid after : List ℕ) (q k : ℕ) → mid ≡ set room q 
 unfolding number_written
 number_put room mid after q k high low = let on : q + 1 ≡ suc q = omega arith in low ∙ rw (high, on)
 
--- What is put beyond the end of a room is left out.
-cut : (vs room : List ℕ) (i n : ℕ) → length room ≤ i + n → sets room i (take n vs) ≡ sets room i vs
-cut [] room i n out = ap (sets room i) (take-nil n)
-cut (v ∷ vs) room i zero out = sym (stores_out (v ∷ vs) room i (omega (arith, out)))
-cut (v ∷ vs) room i (suc n) out = let same = length-set room i v in cut vs (set room i v) (suc i) n (omega (arith, same, out))
+-- A PART of an input, from p up to e. The bytes from i on are still to be stored, the first of them at `at`.
+pub record Copying (s before : List ℕ) (p e q : ℕ) (room : List ℕ) (i at : ℕ) : Type 0 where
+  pub inside : e ≤ length s
+  pub most : i ≤ e
+  pub sized : length room ≡ length before
+  pub same : sets before q (take (e - p) (drop p s)) ≡ sets room at (take (e - i) (drop i s))
 
--- A PART of an input, from p up to e. So many bytes of it fit behind q; where q is beyond the room's end, there are none.
-module _ (s room : List ℕ) (p e q : ℕ) (order : p ≤ e) (inside : e ≤ length s) (start fitting : ℕ) (from : start ≡ min q (length room)) (fit : fitting ≡ min (e - p) (length room - start)) where
-  abbrev fits : List ℕ
-  fits = take fitting (drop p s)
+pub copying_starts : (s room : List ℕ) (p e q : ℕ) → p ≤ e → e ≤ length s → Copying s room p e q room (p + 0) (q + 0)
+copying_starts s room p e q order inside =
+    let first : p + 0 ≡ p = omega arith in
+    let start : q + 0 ≡ q = omega arith in
+    record { inside = inside; most = omega arith; sized = refl; same = rw (first, start) }
 
-  long : length fits ≡ fitting
-  long = let rest = length-drop p s in length-take-le fitting (drop p s) (omega (arith, rest, fit, inside, order))
+-- Behind the room's end nothing of it is put.
+pub part_out : (s room : List ℕ) (p e q : ℕ) → length room ≤ q → room ≡ sets room q (take (e - p) (drop p s))
+part_out s room p e q out = sym (stores_out (take (e - p) (drop p s)) room q out)
 
-  fitting_put : sets room q fits ≡ sets room q (take (e - p) (drop p s))
-  fitting_put =
-      by-test (ltb fitting (e - p))
-      (λ t.
-      let less = ltb-true _ _ t in
-      let few : fitting ≤ e - p = omega (arith, less) in
-      ap (sets room q) (sym (take-take fitting (e - p) (drop p s) few)) ∙ cut (take (e - p) (drop p s)) room q fitting (omega (arith, less, fit, from)))
-      (λ f. let all = ltb-false _ _ f in let same : fitting ≡ e - p = omega (arith, all, fit) in ap (λ (n : ℕ). sets room q (take n (drop p s))) same)
+-- So many bytes as fit behind q are stored.
+module _ (s before : List ℕ) (p e q fitting : ℕ) (fit : fitting ≡ min (e - p) (length before - q)) (room : List ℕ) (i : ℕ) (copies : Copying s before p e q room (p + i) (q + i)) where
+  part_over : e ≤ p + i → room ≡ sets before q (take (e - p) (drop p s))
+  part_over over = sym (copies.same ∙ rw (part_none s (p + i) e over))
 
-  part_at : q ≤ length room → take q room ++ (fits ++ drop fitting (drop q room)) ≡ sets room q fits
-  part_at within =
-      let size = long in
-      let after : drop fitting (drop q room) ≡ drop (q + length fits) room = drop-drop fitting q room ∙ ap (λ (n : ℕ). drop (q + n) room) (sym size) in
-      ap (λ (xs : List ℕ). take q room ++ (fits ++ xs)) after
-      ∙ sym (append_assoc (take q room) fits (drop (q + length fits) room))
-      ∙ sym (sets-eq fits room q (omega (arith, size, fit, from, within)))
+  pub part_put : fitting ≤ i → room ≡ sets before q (take (e - p) (drop p s))
+  part_put over =
+      let sized = copies.sized in
+      by-test (ltb (p + i) e)
+      (λ t. let less = ltb-true _ _ t in sym (copies.same ∙ stores_out (take (e - (p + i)) (drop (p + i) s)) room (q + i) (omega (arith, less, over, fit, sized))))
+      (λ f. part_over (ltb-false _ _ f))
 
-  pub part_put : (part : List ℕ) → part ≡ take (p + fitting - p) (drop p s) → put_mid start (start + fitting - start) room part ≡ sets room q (take (e - p) (drop p s))
-  part_put part is =
-      let many : p + fitting - p ≡ fitting = omega arith in
-      let wide : start + fitting - start ≡ fitting = omega arith in
-      rw (is, many, wide)
-      (by-test (ltb (length room) q)
-      (λ t.
-      let out = ltb-true _ _ t in
-      let none : fitting ≡ 0 = omega (arith, out, from, fit) in
-      let end : start ≡ length room = omega (arith, out, from) in
-      rw (none, end) (take-append-drop (length room) room ∙ sym (stores_out (take (e - p) (drop p s)) room q (omega (arith, out)))))
-      (λ f.
-      let within = ltb-false _ _ f in
-      let at : start ≡ q = omega (arith, within, from) in
-      rw at (part_at within ∙ fitting_put)))
+  pub copying_next : i < fitting → Copying s before p e q (set room (q + i) (get_or s (p + i) 0)) (p + (i + 1)) (q + (i + 1))
+  copying_next more =
+      let inside = copies.inside in
+      let less : p + i < e = omega (arith, more, fit) in
+      let next : p + (i + 1) ≡ p + i + 1 = omega arith in
+      let on : q + (i + 1) ≡ suc (q + i) = omega arith in
+      record {
+        inside = inside;
+        most = omega (arith, less);
+        sized = length-set room (q + i) (get_or s (p + i) 0) ∙ copies.sized;
+        same = copies.same ∙ rw (part_first s (p + i) e less inside, next, on);
+      }
 
 -- WHAT A STATE KNOWS. The literals of the fluents below f are put behind the place of their count, and those from f up are still to be.
 pub record Listing (marks before : List ℕ) (q : ℕ) (room : List ℕ) (p count f : ℕ) : Type 0 where

@@ -117,7 +117,7 @@ pub fn put_goals(
     r: &Request<OfFlags>,
     at: usize,
     marks: &Marks,
-    rule: Rule,
+    rule: u8,
     cites: &Cites,
     room: &mut [u8],
     progress: &mut Progress,
@@ -125,7 +125,7 @@ pub fn put_goals(
     requires position { Position (plan_in Flags r.now.bytes.now r.now.notes.now) at }
     requires marked { Marked marks.now }
     requires underway { Underway progress.old }
-    ensures stands { standing progress.new room.new ≡ add (standing progress.old room.old) (line_of marks.now (rest_at (plan_in Flags r.now.bytes.now r.now.notes.now) at) (goals_of (request_in Flags r.now.bytes.now r.now.notes.now)) (rule_number rule) cites.now ∷ []) }
+    ensures stands { standing progress.new room.new ≡ add (standing progress.old room.old) (line_of marks.now (rest_at (plan_in Flags r.now.bytes.now r.now.notes.now) at) (goals_of (request_in Flags r.now.bytes.now r.now.notes.now)) rule cites.now ∷ []) }
     ensures going { Underway progress.new }
 {
     if limits::LINES < progress.lines {
@@ -134,7 +134,7 @@ pub fn put_goals(
     let plan = put_known(marks, room, progress.end);
     let concluded = put_rest(r, at, room, plan);
     let ruled = put_asked(r, room, concluded);
-    put(room, ruled, u8::from(rule));
+    put(room, ruled, rule);
     progress.end = put_cites(cites, room, ruled + 1);
     progress.lines += 1;
 }

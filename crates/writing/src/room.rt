@@ -33,9 +33,14 @@ pub fn put_part(s: &[u8], p: usize, e: usize, room: &mut [u8], q: usize)
     requires q_bound { q < 281474976710656 }
     ensures { room.new ≡ sets room.old q (take (e - p) (drop p s.now)) }
 {
-    let start = q.min(room.len());
-    let fitting = (e - p).min(room.len() - start);
-    room[start..start + fitting].copy_from_slice(&s[p..p + fitting]);
+    if room.len() <= q {
+        return;
+    }
+    let fitting = (e - p).min(room.len() - q);
+    // Kept: byte by byte, since `copy_from_slice` of any length would have the archive for C need `memmove` from outside.
+    for i in 0..fitting {
+        room[q + i] = s[p + i];
+    }
 }
 
 // What a state knows, as a list. It gives the place after it.

@@ -1,6 +1,6 @@
 /*
- * Counts how the walk call reads the bytes of effects. It is linked to a copy of the library whose byte reads call counted_read, and which calls
- * counted_note where a walk begins and where the making of a state after an action begins and ends. While a state is made, each byte read of the
+ * Counts how the walk call reads the bytes of effects. It is linked to a copy of the library whose byte reads call counted_read, or counted_entry
+ * where a list is gone over as a slice, and which calls counted_note where a walk begins and where the making of a state after an action begins and ends. While a state is made, each byte read of the
  * effects has to be of an effect of that action and to stand after the byte read before it, so none is read twice; at any other time of the
  * walk none may be read. Else the process ends. At its end the figures are added to the file that READS names.
  */
@@ -15,6 +15,7 @@ enum { NO_ACTION = -1 };
 
 /* The library's sources pass a slice among themselves as a pointer and a length. */
 uint8_t counted_read(const uint8_t *start, uint64_t length, uint64_t place);
+uint8_t counted_entry(const uint8_t *entry);
 uint64_t counted_note(const uint8_t *start, uint64_t length, uint64_t what);
 uint64_t __real_glintstring_judge(const uint8_t *request, size_t request_length, uint8_t *state, size_t state_length, uint32_t budget);
 uint64_t __wrap_glintstring_judge(const uint8_t *request, size_t request_length, uint8_t *state, size_t state_length, uint32_t budget);
@@ -22,9 +23,10 @@ uint64_t __wrap_glintstring_judge(const uint8_t *request, size_t request_length,
 /* The request of the call that is made: the action of the effect that a byte belongs to, or NO_ACTION; and how many bytes an action's effects
    have without their action bytes, which are read once for all while the request is. */
 static const uint8_t *request;
+static size_t request_bytes;
 static int16_t action_of[REQUEST_MOST];
 static uint64_t bytes_of[256];
-static int walking, action = NO_ACTION;
+static int walking, walks_it, action = NO_ACTION;
 static uint64_t last;
 
 static uint64_t walks, states, bytes, reads;
@@ -52,6 +54,7 @@ static void find_effects(size_t length) {
 
 uint64_t __wrap_glintstring_judge(const uint8_t *first, size_t length, uint8_t *state, size_t state_length, uint32_t budget) {
     request = first;
+    request_bytes = length;
     walking = 0;
     find_effects(first == NULL ? 0 : length);
     uint64_t answer = __real_glintstring_judge(first, length, state, state_length, budget);
@@ -62,10 +65,11 @@ uint64_t __wrap_glintstring_judge(const uint8_t *first, size_t length, uint8_t *
 }
 
 uint64_t counted_note(const uint8_t *start, uint64_t length, uint64_t what) {
-    (void)start;
     (void)length;
-    if (what == WALK_BEGINS) walking = 1;
-    else if (walking && what == STATE_MADE) action = NO_ACTION;
+    if (what == WALK_BEGINS) {
+        walking = 1;
+        walks_it = start == request;
+    } else if (walking && what == STATE_MADE) action = NO_ACTION;
     else if (walking) {
         action = (int)what;
         last = 0;
@@ -75,16 +79,26 @@ uint64_t counted_note(const uint8_t *start, uint64_t length, uint64_t what) {
     return what;
 }
 
+static void count(uint64_t place) {
+    if (!walking || place >= REQUEST_MOST || action_of[place] == NO_ACTION) return;
+    if (action == NO_ACTION) fault("of an effect, and no state is being made", place);
+    if (action_of[place] != action) fault("of another action's effect", place);
+    if (place <= last) fault("read twice, or after a later one", place);
+    last = place;
+    reads++;
+}
+
 uint8_t counted_read(const uint8_t *start, uint64_t length, uint64_t place) {
     (void)length;
-    if (walking && start == request && place < REQUEST_MOST && action_of[place] != NO_ACTION) {
-        if (action == NO_ACTION) fault("of an effect, and no state is being made", place);
-        if (action_of[place] != action) fault("of another action's effect", place);
-        if (place <= last) fault("read twice, or after a later one", place);
-        last = place;
-        reads++;
-    }
+    if (start == request) count(place);
     return start[place];
+}
+
+/* An entry of a list of the request that is walked, or of another input. */
+uint8_t counted_entry(const uint8_t *entry) {
+    uintptr_t first = (uintptr_t)request, here = (uintptr_t)entry;
+    if (walks_it && here >= first && here - first < request_bytes) count(here - first);
+    return *entry;
 }
 
 __attribute__((destructor)) static void tell(void) {

@@ -117,4 +117,4 @@ pub put_sensing-put_goals-requires-clause-position : goal.put_sensing-put_goals-
 put_sensing-put_goals-requires-clause-position t c = search item_position
 
 pub put_sensing-returns : goal.put_sensing-returns
-put_sensing-returns t c = sensing_put _ _ _ _ c.requires.acts _ c.follow-at.ensures _ c.requires.a_value c.requires.marked _ c.first_unknown-f.ensures _ _ _ c.none-cites.ensures _ _ _ _ _ c.put_readings.ensures c.put_goals.ensures.stands c.put_goals.ensures.going
+put_sensing-returns t c = sensing_put _ _ _ _ c.requires.acts _ c.follow-at.ensures _ c.requires.a_value c.requires.marked _ c.first_unknown-f.ensures _ _ _ c.none-cites.ensures _ _ _ _ _ c.put_readings.ensures _ c.from.ensures c.put_goals.ensures.stands c.put_goals.ensures.going

@@ -5,8 +5,8 @@ use Rattle.valuing.proofs.states.known.Goals as goal
 pub returns-then-l-eq0 : goal.returns-then-l-eq0
 returns-then-l-eq0 c = search known_is
 
-pub returns-then-mark-ne0 : goal.returns-then-mark-ne0
-returns-then-mark-ne0 c = search known_is_not
+pub returns-then-mark-eq0 : goal.returns-then-mark-eq0
+returns-then-mark-eq0 c = search known_unknown
 
-pub returns-else-mark-ne0 : goal.returns-else-mark-ne0
-returns-else-mark-ne0 c = search known_unknown
+pub returns : goal.returns
+returns c = search known_is_not

@@ -1,5 +1,5 @@
 -- Each way in which the walk went has an answer, and the definition tells the same.
-use Rattle.verdicts.proofs.TellingLaws.{tell_fine, tell_missed, tell_stuck, tell_broken, tell_wide, tell_many, tell_spent}
+use Rattle.verdicts.proofs.TellingLaws.{tell_fine, tell_missed, tell_stuck, tell_broken, tell_other, tell_wide, tell_many, tell_spent}
 use Rattle.verdicts.proofs.telling.tell.Goals as goal
 
 pub returns-in-Fine : goal.returns-in-Fine
@@ -13,6 +13,9 @@ returns-in-Stuck c = search tell_stuck
 
 pub returns-in-Broken : goal.returns-in-Broken
 returns-in-Broken c = search tell_broken
+
+pub returns-in-Other : goal.returns-in-Other
+returns-in-Other c = search tell_other
 
 pub returns-in-TooWide : goal.returns-in-TooWide
 returns-in-TooWide c = search tell_wide

@@ -1,14 +1,14 @@
 -- Each return is one law that adds what was walked to how the walk stood. At each call the position rises, or in a fork the fluent does, so
 -- the cycle ends.
 use Rattle.walking.proofs.FitLaws.{fit_after}
-use Rattle.walking.proofs.FallLaws.{fork_falls, fork_walk_falls, fork_higher_falls, higher_falls, higher_walk_falls, walk_branching_falls, walk_fork_falls, followed_position, opens_branching, is_branching, action_here}
+use Rattle.walking.proofs.FallLaws.{fork_falls, fork_walk_falls, fork_higher_falls, higher_falls, higher_walk_falls, walk_branching_falls, walk_fork_falls, followed_position, followed_as, near_far, opens_branching, is_branching, action_here}
 use Rattle.walking.proofs.WalkArms.{Walking, going_again, action_low, item_stuck, item_many, run_spent, run_moves, run_forks, run_sees, branch_taken, none_taken, walking_here, walking_there, walking_marked, walking_later, walking_broken, walking_passed, walking_ends, walking_judged, walking_on, passed_lacks}
 use Rattle.walking.proofs.ForkLaws.{next_rises, first_fits, second_fits, forks_once, forks_twice, forks_all, walks_once, walks_twice, walks_all, forking_starts, forking_going, forking_fits, forking_fit, forking_less, forking_forks, forking_walks, forking_ends}
 use Rattle.steps.proofs.OnwardLaws.{item_inside, action_small}
 use borrow.Author.Rules.{rules}
 use Rattle.std.proofs.Common.{sym, subst, ◌∙◌}
 use Rattle.meaning.specs.States.{State}
-use Rattle.walking.proofs.walk.+fork_higher_values_walk_walk_branching.Goals.{walk-then-is_sensing+else-f-lt-FLUENTS, walk-else-is_sensing}
+use Rattle.walking.proofs.walk.+fork_higher_values_walk_walk_branching.Goals.{walk-then-is_sensing+else-f-lt-FLUENTS, walk-else-is_sensing, higher_values-then-g-lt-FLUENTS, higher_values-else-g-lt-FLUENTS}
 use Rattle.walking.proofs.walk.+fork_higher_values_walk_walk_branching.Goals as goal
 
 pub fork-bounds-r-p : goal.fork-bounds-r-p
@@ -56,6 +56,9 @@ fork-returns-in_default-FORM g t c = let next = c.next_unknown-g.ensures in let 
 pub fork-returns-else-goes_on-2 : goal.fork-returns-else-goes_on-2
 fork-returns-else-goes_on-2 g t c = let next = c.next_unknown-g.ensures in let follows = c.follow-at.ensures in search walks_once
 
+pub higher_values-returns-then-not-has_more : goal.higher_values-returns-then-not-has_more
+higher_values-returns-then-not-has_more g t c = forking_ends _ _ _ _ _ _ _ _ _ (forking_starts _ _ _ _ _ _ _ c.requires.marked_as) _ c.has_more.ensures c.if-not-has_more.true
+
 pub higher_values-bounds-r-p : goal.higher_values-bounds-r-p
 higher_values-bounds-r-p g t c = search item_inside
 
@@ -71,20 +74,31 @@ higher_values-overflow_add-state g t c = search forking_fits
 pub higher_values-higher_values-requires : goal.higher_values-higher_values-requires
 higher_values-higher_values-requires g t c κs lives = let next = c.next_unknown-g.ensures in (search (higher_falls, next_rises), (lives, (search rules, (search rules, (search rules, search forking_fit)))))
 
-pub higher_values-loop-state-smaller-then-g-lt-FLUENTS : goal.higher_values-loop-state-smaller-then-g-lt-FLUENTS
-higher_values-loop-state-smaller-then-g-lt-FLUENTS g t c = search forking_less
+pub higher_values-loop-state-smaller-then-g-lt-FLUENTS-2 : goal.higher_values-loop-state-smaller-then-g-lt-FLUENTS-2
+higher_values-loop-state-smaller-then-g-lt-FLUENTS-2 g t c = search forking_less
 
-pub higher_values-loop-state-preserved-then-g-lt-FLUENTS : goal.higher_values-loop-state-preserved-then-g-lt-FLUENTS
-higher_values-loop-state-preserved-then-g-lt-FLUENTS g t c = let next = c.next_unknown-g.ensures in search forking_forks
+pub higher_values-loop-state-preserved-then-g-lt-FLUENTS-2 : goal.higher_values-loop-state-preserved-then-g-lt-FLUENTS-2
+higher_values-loop-state-preserved-then-g-lt-FLUENTS-2 g t c = let next = c.next_unknown-g.ensures in search forking_forks
 
 pub higher_values-walk-requires : goal.higher_values-walk-requires
-higher_values-walk-requires g t c κs lives = let follows = c.follow-at.ensures in (search higher_walk_falls, (lives, (search followed_position, (search forking_fit, search forking_going))))
+higher_values-walk-requires g t c κs lives =
+    elim c.if-g-lt-FLUENTS.branch [
+      | higher_values-then-g-lt-FLUENTS w ↦ absurd (near_far _ _ w.if-g-lt-FLUENTS.true c.if-g-lt-FLUENTS-2.false)
+      | higher_values-else-g-lt-FLUENTS w ↦
+          let follows = followed_as _ _ _ _ _ w.at-is w.follow-at.ensures in
+          (search higher_walk_falls, (lives, (search followed_position, (search forking_fit, search forking_going))))
+    ]
 
 pub higher_values-loop-state-smaller : goal.higher_values-loop-state-smaller
 higher_values-loop-state-smaller g t c = search forking_less
 
 pub higher_values-loop-state-preserved : goal.higher_values-loop-state-preserved
-higher_values-loop-state-preserved g t c = let next = c.next_unknown-g.ensures in let follows = c.follow-at.ensures in search forking_walks
+higher_values-loop-state-preserved g t c =
+    let next = c.next_unknown-g.ensures in
+    elim c.if-g-lt-FLUENTS.branch [
+      | higher_values-then-g-lt-FLUENTS w ↦ absurd (near_far _ _ w.if-g-lt-FLUENTS.true c.if-g-lt-FLUENTS-2.false)
+      | higher_values-else-g-lt-FLUENTS w ↦ let follows = followed_as _ _ _ _ _ w.at-is w.follow-at.ensures in search forking_walks
+    ]
 
 pub higher_values-returns : goal.higher_values-returns
 higher_values-returns g t c = search forking_ends
